@@ -1,0 +1,5 @@
+pub mod Bytes
+pub mod Fields
+pub mod Steps
+pub mod Strays
+pub mod Written
