@@ -21,7 +21,7 @@ symbol-digit d h = grind (arith, tells)
 
 module _ (s : Standing) (p : ℕ) (below : p < 4096) where
   -- one character of a text that is not too long
-  first : (x : ℕ) (xs : List ℕ) → reading-from s p (x ∷ xs) ≡ by-step (advanced s (symbol-of x)) p (λ t. reading-from t (p + 1) xs)
+  pub first : (x : ℕ) (xs : List ℕ) → reading-from s p (x ∷ xs) ≡ by-step (advanced s (symbol-of x)) p (λ t. reading-from t (p + 1) xs)
   first x xs = cond-false (leb 4096 p) _ _ (lt-leb 4096 p below)
 
   first-digit : (d : ℕ) (xs : List ℕ) → d < 16 → reading-from s p (digit-char d ∷ xs) ≡ by-step (advanced s (Digit d)) p (λ t. reading-from t (p + 1) xs)

@@ -5,3 +5,5 @@ pub mod Spaced
 pub mod Decimals
 pub mod Again
 pub mod Appending
+pub mod Grammar
+pub mod Rules

@@ -6,3 +6,4 @@ pub mod Lines
 pub mod Memory
 pub mod Laws
 pub mod Pages
+pub mod Grammar

@@ -4,6 +4,7 @@ ghost use mathlib.Core.List.{List, _∷_, _++_};
 ghost use Prim.Native.Nat.{ℕ};
 ghost use lib.ListN.{length};
 ghost use Rattle.std.specs.declared.result.Result.the-variants.{Err};
+ghost use Rattle.hexadecimal.specs.Grammar.{Reads-by-rules};
 ghost use Rattle.hexadecimal.specs.Texts.{advanced, bytes-or-position, text-reading, overlong};
 ghost use Rattle.hexadecimal.specs.Steps.{Digit-symbol, Digit-standing, Step-sound};
 use super::bytes::Bytes;
@@ -54,8 +55,16 @@ fn advance(standing: Standing, symbol: Symbol) -> Step
     }
 }
 
-// The bytes of a text.
+// The bytes of a text, or the position of its first fault. That reading goes by the rules of the grammar
+// is said of the definition.
 pub fn read(text: &[u8]) -> Result<Bytes, BadText>
+    ensures value { λ r. ⌜ bytes-or-position r ≡ text-reading (now (text .entry)) ⌝ }
+    ensures by_rules { λ _. ⌜ Reads-by-rules ⌝ }
+{
+    read_pairs(text)
+}
+
+fn read_pairs(text: &[u8]) -> Result<Bytes, BadText>
     ensures { λ r. ⌜ bytes-or-position r ≡ text-reading (now (text .entry)) ⌝ }
 {
     let mut bytes = Bytes::empty();

@@ -5,7 +5,7 @@ use Rattle.hexadecimal.specs.Holdings.{held}
 use Rattle.hexadecimal.specs.Steps.{Digit-standing, taken}
 use Rattle.hexadecimal.specs.Texts.{reading-from, text-reading}
 use Rattle.hexadecimal.proofs.Readings.{after}
-use Rattle.hexadecimal.proofs.reader.read.Given as given
+use Rattle.hexadecimal.proofs.reader.read_pairs.Given as given
 
 abbrev pub Inv-loop-i : given.InvT-loop-i
 Inv-loop-i l =
