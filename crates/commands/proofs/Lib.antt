@@ -1,0 +1,12 @@
+pub mod Searching
+pub mod Parsing
+pub mod Tabled
+pub mod Asking
+pub mod Causes
+pub mod Telling
+pub mod Lawful
+pub mod Pushing
+pub mod Composing
+pub mod Quiet
+pub mod Replying
+pub mod Saving

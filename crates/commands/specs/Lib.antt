@@ -1,0 +1,10 @@
+pub mod Settings
+pub mod Rows
+pub mod Faults
+pub mod Requests
+pub mod Asking
+pub mod Instructions
+pub mod Telling
+pub mod Replies
+pub mod Answers
+pub mod Saving
