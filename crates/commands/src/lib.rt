@@ -2,6 +2,8 @@
 //
 // The body of a sound frame becomes a request, or a fault under its own cause; an answer becomes the
 // bytes of a reply. Which command means which setting stands in one table of fifteen rows.
+#![tactic(auto)]
+
 mod answers;
 mod faults;
 mod instructions;

@@ -2,6 +2,8 @@
 //
 // A digit byte holds two decimal digits, the higher in its upper four bits. A field is up to five
 // digit bytes, with the lowest two digits in its first byte (low first) or in its last (high first).
+#![tactic(auto)]
+
 mod reading;
 mod table;
 mod writing;

@@ -3,6 +3,8 @@
 // A stretch is what follows an FD, or the stream's start, up to the next FD. Its body is what follows
 // the last two adjacent FE bytes in it. A body that meets the rules is a sound frame, and counts at
 // its FD.
+#![tactic(auto)]
+
 mod count;
 mod framer;
 

@@ -3,6 +3,8 @@
 // A text has at most 4,096 characters, a character being a byte. Hexadecimal digits stand in pairs,
 // each pair a byte; blanks and line ends may stand between pairs, and a # there begins a remark that
 // ends with its line.
+#![tactic(auto)]
+
 mod bytes;
 mod decimal;
 mod lines;

@@ -1,4 +1,6 @@
 // What the outstation's host, a program in C, calls. include/civ.h declares it.
+#![tactic(auto)]
+
 ghost use Rattle.std.specs.Prelude.{◌≡◌, length};
 ghost use Rattle.framing.specs.Frames.{sound_frames, frames_for};
 

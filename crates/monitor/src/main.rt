@@ -1,4 +1,6 @@
 // Shows the sound frames of a capture that is given as hexadecimal text on standard input.
+#![tactic(auto)]
+
 ghost use Rattle.std.specs.Prelude.{◌≤◌, length, IfOk};
 
 mod report;

@@ -3,6 +3,8 @@
 // A receiver reads a number or none for each setting, and takes some numbers, each as the number that it
 // keeps. Whatever uses receivers is proved over that meaning and its laws, once. The table and the raster
 // receiver keep numbers; the converter and the fence are layers over any receiver, in piles of any height.
+#![tactic(auto)]
+
 mod blocks;
 mod converter;
 mod fence;
