@@ -29,7 +29,7 @@ trait Sought {
 
 // The first row that is wanted.
 fn first_of<S: Sought>(table: &[Row], sought: &S) -> Option<Row>
-    ensures { result ≡ first (wanted sought.now) table.now }
+    ensures { result ≡ first (S.wanted sought.now) table.now }
 {
     for row in table {
         if sought.wants(row) {
@@ -41,7 +41,7 @@ fn first_of<S: Sought>(table: &[Row], sought: &S) -> Option<Row>
 
 // The first row of the command table that is wanted.
 fn find<S: Sought>(sought: &S) -> Option<Row>
-    ensures { result ≡ first (wanted sought.now) rows }
+    ensures { result ≡ first (S.wanted sought.now) rows }
 {
     first_of(&ROWS, sought)
 }

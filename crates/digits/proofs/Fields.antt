@@ -1,5 +1,5 @@
 -- A number's field: it is one, it reads back, and it is the only one. Assumes nothing.
-use Rattle.std.proofs.Common.{◌≡◌, ℕ, zero, suc, ◌/◌, ◌%◌, ◌^◌, ◌<◌, ◌≤◌, Bool, true, false, cond, not, ◌&&◌, ltb, List, [], ◌∷◌, reverse, length, is_ok as isOk, Ok, Err, sym, refl, ap, ◌∙◌, pow-suc, arith}
+use Rattle.std.proofs.Common.{◌≡◌, ℕ, zero, suc, ◌/◌, ◌%◌, ◌^◌, ◌<◌, ◌≤◌, Bool, true, false, cond, not, ◌&&◌, ltb, List, [], ◌∷◌, reverse, length, is_ok, Ok, Err, sym, refl, ap, ◌∙◌, pow-suc, arith}
 use Rattle.std.proofs.lemmas.Bool.{false≢true, le-ltb, ltb-true, ltb-false}
 use Rattle.std.proofs.lemmas.List.{reverse-reverse, length-reverse}
 use Rattle.digits.specs.declared.Order.{Order}
@@ -69,13 +69,13 @@ pub field_back : (o : Order) (w n : ℕ) (bs : List ℕ) → w ≤ 5 → n < 100
 field_back o w n bs l h e = ap (field_reading o) e ∙ field_reads o w n (field_of o w n) l (field_is_one o w n h)
 
 -- what can be written fits
-pub writing_fits : (n w : ℕ) → isOk (field_writing n w) ≡ true → (w ≤ 5) × (n < 100 ^ w)
-writing_fits n w h = go (ltb 5 w) (ltb n (100 ^ w)) refl refl (sym (is_ok (ltb 5 w) (ltb n (100 ^ w))) ∙ h)
+pub writing_fits : (n w : ℕ) → is_ok (field_writing n w) ≡ true → (w ≤ 5) × (n < 100 ^ w)
+writing_fits n w h = go (ltb 5 w) (ltb n (100 ^ w)) refl refl (sym (fine (ltb 5 w) (ltb n (100 ^ w))) ∙ h)
   where
-    is_ok : (long fits : Bool) → isOk {T = Unit {0}} (cond long (Err unwritable.TooLong) (cond fits (Ok tt) (Err unwritable.DoesNotFit))) ≡ (not long && fits)
-    is_ok true fits = refl
-    is_ok false true = refl
-    is_ok false false = refl
+    fine : (long fits : Bool) → is_ok {T = Unit {0}} (cond long (Err unwritable.TooLong) (cond fits (Ok tt) (Err unwritable.DoesNotFit))) ≡ (not long && fits)
+    fine true fits = refl
+    fine false true = refl
+    fine false false = refl
 
     go : (long fits : Bool) → ltb 5 w ≡ long → ltb n (100 ^ w) ≡ fits → (not long && fits) ≡ true → (w ≤ 5) × (n < 100 ^ w)
     go false true l f h = (ltb-false 5 w l, ltb-true n (100 ^ w) f)

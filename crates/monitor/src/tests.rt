@@ -6,20 +6,32 @@ fn frames_are_listed(rt: HostRuntime) {
     let text = b"FEFE96E003FD # read\nfe fe 96 fc fe fe 96 e0 04 fd FEFE96E0FBFD";
     assert_eq!(rt;
         report(text, false).as_slice(),
-        b"96 E0 03\n96 E0 04\nframes 2\n"
+        b"96 E0 03\n96 E0 04\nframes 2\n".as_slice()
     );
-    assert_eq!(rt; report(b"", false).as_slice(), b"frames 0\n");
+    assert_eq!(rt; report(b"", false).as_slice(), b"frames 0\n".as_slice());
 }
 
 #[test]
 fn bad_text_is_told(rt: HostRuntime) {
-    assert_eq!(rt; report(b"FEFE96E003FD 0 0", false).as_slice(), b"BAD 14\n");
-    assert_eq!(rt; report(b"FE F", false).as_slice(), b"BAD 4\n");
+    assert_eq!(rt;
+        report(b"FEFE96E003FD 0 0", false).as_slice(),
+        b"BAD 14\n".as_slice()
+    );
+    assert_eq!(rt; report(b"FE F", false).as_slice(), b"BAD 4\n".as_slice());
 }
 
 #[test]
 fn text_that_goes_on_is_bad(rt: HostRuntime) {
-    assert_eq!(rt; report(&[b' '; 4096], false).as_slice(), b"frames 0\n");
-    assert_eq!(rt; report(&[b' '; 4096], true).as_slice(), b"BAD 4096\n");
-    assert_eq!(rt; report(&[b'-'; 4096], true).as_slice(), b"BAD 0\n");
+    assert_eq!(rt;
+        report(&[b' '; 4096], false).as_slice(),
+        b"frames 0\n".as_slice()
+    );
+    assert_eq!(rt;
+        report(&[b' '; 4096], true).as_slice(),
+        b"BAD 4096\n".as_slice()
+    );
+    assert_eq!(rt;
+        report(&[b'-'; 4096], true).as_slice(),
+        b"BAD 0\n".as_slice()
+    );
 }

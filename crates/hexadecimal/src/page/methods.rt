@@ -25,9 +25,9 @@ impl Page {
 
     // Puts something behind what stands on the page, or leaves the page as it is.
     pub fn add<P: Printed + Drop>(&mut self, what: P) -> Result<(), NoRoom>
-        ensures value { result ≡ adding tt 32768 (shown self.old) (text what) }
-        ensures after { shown self.new ≡ with_text 32768 (shown self.old) (text what) }
-        ensures cases { MatchResult result (λ _. shown self.new ≡ shown self.old ++ text what) (λ _. 32768 < length (shown self.old) + length (text what)) }
+        ensures value { result ≡ adding tt 32768 (shown self.old) (P.text what) }
+        ensures after { shown self.new ≡ with_text 32768 (shown self.old) (P.text what) }
+        ensures cases { MatchResult result (λ _. shown self.new ≡ shown self.old ++ P.text what) (λ _. 32768 < length (shown self.old) + length (P.text what)) }
     {
         self.len = append(&what, &mut self.memory, self.len)?;
         Ok(())
@@ -37,9 +37,9 @@ impl Page {
 // Writes a text behind the first `len` bytes of the memory, which stay, and says where it ends.
 fn append<P: Printed>(what: &P, memory: &mut [u8], len: usize) -> Result<usize, NoRoom>
     requires { len ≤ length memory.old }
-    ensures value { result ≡ adding (length (with_text (length memory.old) (take len memory.old) (text what.now))) (length memory.old) (take len memory.old) (text what.now) }
+    ensures value { result ≡ adding (length (with_text (length memory.old) (take len memory.old) (P.text what.now))) (length memory.old) (take len memory.old) (P.text what.now) }
     ensures within { IfOk result (λ end. end ≤ length memory.old) }
-    ensures after { take (length (with_text (length memory.old) (take len memory.old) (text what.now))) memory.new ≡ with_text (length memory.old) (take len memory.old) (text what.now) }
+    ensures after { take (length (with_text (length memory.old) (take len memory.old) (P.text what.now))) memory.new ≡ with_text (length memory.old) (take len memory.old) (P.text what.now) }
 {
     match what.write(&mut memory[len..]) {
         Ok(written) => Ok(len + written),

@@ -5,4 +5,4 @@ use Rattle.commands.proofs.answers.compose.Goals as goal
 
 pub returns : goal.returns
 returns c =
-    record { value = c.write-reply.ensures; short = short_replies; tells = replies_tell; goes_back = saved_goes_back }
+    record { value = c.write_reply.ensures; short = short_replies; tells = replies_tell; goes_back = saved_goes_back }

@@ -9,20 +9,20 @@ use Rattle.commands.proofs.answers.push_field.Goals as goal
 abbrev blank : List ℕ
 blank = 0 ∷ 0 ∷ 0 ∷ 0 ∷ 0 ∷ []
 
-pub push-all-requires : goal.push-all-requires
-push-all-requires c =
+pub push_all-requires : goal.push_all-requires
+push_all-requires c =
     omega (
       arith,
-      ap length c.push-name.ensures,
+      ap length c.push_name.ensures,
       length-append (bytes_of c.args.reply.now) (read_bytes c.args.row),
       name_short c.args.row,
-      c.write-field.auto.field,
+      c.write_field.auto.field,
       length-take-le (c.args.row.bytes - 0) blank (omega arith),
     )
 
 pub returns : goal.returns
 returns c =
-    let written : is_ok c.write-field.result ≡ true = search rules in
-    field_behind c.args.row c.args.number (bytes_of c.args.reply.now) _ _ _ _ c.write-field.result
+    let written : is_ok c.write_field.result ≡ true = search rules in
+    field_behind c.args.row c.args.number (bytes_of c.args.reply.now) _ _ _ _ c.write_field.result
     (length-take-le (c.args.row.bytes - 0) blank (omega arith) ∙ omega arith)
-    c.write-field.ensures.value written c.write-field.ensures.after c.push-name.ensures c.push-all.ensures
+    c.write_field.ensures.value written c.write_field.ensures.after c.push_name.ensures c.push_all.ensures

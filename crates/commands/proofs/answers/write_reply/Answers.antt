@@ -8,5 +8,5 @@ push-requires c =
     omega (
       arith,
       ap length c.begin-reply.ensures,
-      onto_short c.args.answer (bytes_of c.begin-reply.result) _ c.in-ok-push-answer.ensures,
+      onto_short c.args.answer (bytes_of c.begin-reply.result) _ c.in_ok-push_answer.ensures,
     )

@@ -6,4 +6,4 @@ use Rattle.commands.proofs.instructions.decode_body.Goals as goal
 pub written-requires : goal.written-requires
 written-requires c =
     asked_short c.args.body.now c.in-Write.setting c.in-Write.«data».now c.in-Write.place
-    (ap (λ q. Ok (asked q)) (sym c.in-Write.is) ∙ c.in-ok-setting.ensures.value)
+    (ap (λ q. Ok (asked q)) (sym c.in-Write.is) ∙ c.in_ok-setting.ensures.value)

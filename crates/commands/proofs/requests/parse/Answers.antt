@@ -3,4 +3,4 @@ use Rattle.commands.proofs.Causes.{faults_by_their_causes}
 use Rattle.commands.proofs.requests.parse.Goals as goal
 
 pub returns : goal.returns
-returns c = record { value = c.parse-body.ensures; requests = requests_by_their_bytes; faults = faults_by_their_causes }
+returns c = record { value = c.parse_body.ensures; requests = requests_by_their_bytes; faults = faults_by_their_causes }

@@ -10,14 +10,14 @@ higher_below t c =
     reading_below LowFirst (rest_of c.args.field.now) 4 (Ok c.in-Ok.higher)
     (simp (length-take, length-drop) (omega arith)) c.in-Ok.ensures
 
-pub overflow-mul-result : goal.overflow-mul-result
-overflow-mul-result t c = omega (arith, higher_below t c)
+pub overflow_mul-result : goal.overflow_mul-result
+overflow_mul-result t c = omega (arith, higher_below t c)
 
-pub overflow-add-result : goal.overflow-add-result
-overflow-add-result t c = omega (arith, higher_below t c)
+pub overflow_add-result : goal.overflow_add-result
+overflow_add-result t c = omega (arith, higher_below t c)
 
-pub overflow-add-result-in-Err : goal.overflow-add-result-in-Err
-overflow-add-result-in-Err t c =
+pub overflow_add-result-in-Err : goal.overflow_add-result-in-Err
+overflow_add-result-in-Err t c =
     omega (
       arith,
       reading_below LowFirst (rest_of c.args.field.now) 4 (Err c.in-Err.place)
@@ -29,13 +29,13 @@ returns-in-empty t c = empty LowFirst c.args.field.now (search rules)
 
 pub returns-in-Ok : goal.returns-in-Ok
 returns-in-Ok t c =
-    let number = c.byte-number-number.ensures in
+    let number = c.byte_number-number.ensures in
     rw c.from.ensures
-    (low_step c.args.field.now true c.byte-number-number.result (Ok c.in-Ok.higher) (search rules)
+    (low_step c.args.field.now true c.byte_number-number.result (Ok c.in-Ok.higher) (search rules)
     (fair_number (first_of c.args.field.now) _ number c.if-number.false) number c.in-Ok.ensures)
 
 pub returns-in-Err : goal.returns-in-Err
 returns-in-Err t c =
-    let number = c.byte-number-number.ensures in
-    low_step c.args.field.now true c.byte-number-number.result (Err c.in-Err.place) (search rules)
+    let number = c.byte_number-number.ensures in
+    low_step c.args.field.now true c.byte_number-number.result (Err c.in-Err.place) (search rules)
     (fair_number (first_of c.args.field.now) _ number c.if-number.false) number c.in-Err.ensures

@@ -5,7 +5,7 @@ use Rattle.framing.specs.Frames.{is_for, frames_for}
 use Rattle.framing.specs.Machine.{machine_of, ends_frame, gives}
 use Rattle.framing.proofs.Running.{count_turn, gives_stream}
 use Rattle.framing.proofs.count.count_frames.Goals as goal
-use Rattle.framing.proofs.count.count_frames.Goals.{then-take+then-starts-with, else-take, else-take-via-then-take+else-starts-with, else-take-via-else-take}
+use Rattle.framing.proofs.count.count_frames.Goals.{then-take+then-starts_with, else-take, else-take-via-then-take+else-starts_with, else-take-via-else-take}
 
 pub loop-byte-preserved : goal.loop-byte-preserved
 loop-byte-preserved c =
@@ -13,13 +13,13 @@ loop-byte-preserved c =
     let for-it : Bool = is_for c.args.address (machine_of c.take.new.self).held in
     let turn = λ (hit : Bool). count_turn c.args.address (machine_of c.loop-byte.framer) (machine_of c.take.new.self) c.args.stream.now c.loop-byte.byte-index hit (omega arith) c.take.ensures.after in
     elim c.if-take.branch [
-      | then-take+then-starts-with w ↦
-          let t = turn true (and_from ends for-it (sym w.if-take.ensures.ends) (ap (is_for c.args.address) (sym w.frame.ensures) ∙ sym w.if-starts-with.ensures)) in
+      | then-take+then-starts_with w ↦
+          let t = turn true (and_from ends for-it (sym w.if-take.ensures.ends) (ap (is_for c.args.address) (sym w.frame.ensures) ∙ sym w.if-starts_with.ensures)) in
           (omega (arith, w.count-is), omega (arith, w.count-is))
       | else-take w ↦
           let t : length (frames_for c.args.address (gives (machine_of c.loop-byte.framer) (drop c.loop-byte.byte-index c.args.stream.now))) ≡ length (frames_for c.args.address (gives (machine_of c.take.new.self) (drop (c.loop-byte.byte-index + 1) c.args.stream.now))) =
           elim w.else-take.branch [
-            | else-take-via-then-take+else-starts-with v ↦ omega (arith, turn false (and_right ends for-it (ap (is_for c.args.address) (sym v.frame.ensures) ∙ sym v.if-starts-with.ensures)))
+            | else-take-via-then-take+else-starts_with v ↦ omega (arith, turn false (and_right ends for-it (ap (is_for c.args.address) (sym v.frame.ensures) ∙ sym v.if-starts_with.ensures)))
             | else-take-via-else-take v ↦ omega (arith, turn false (and_left ends for-it (sym v.if-take.ensures.ends)))
           ] in
           (omega (arith, w.count-is), omega (arith, w.count-is))

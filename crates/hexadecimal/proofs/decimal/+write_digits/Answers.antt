@@ -10,17 +10,17 @@ returns-then-number-lt10 t c =
     let e = length_one c.args.number (omega arith) in
     record { value = sym e; after = digit_in_front c.args.number c.args.memory.now (omega arith) (omega arith) }
 
-pub write-digits-at-requires : goal.write-digits-at-requires
-write-digits-at-requires t c = let e = length_more c.args.number (omega arith) (omega arith) in omega arith
+pub write_digits-at-requires : goal.write_digits-at-requires
+write_digits-at-requires t c = let e = length_more c.args.number (omega arith) (omega arith) in omega arith
 
 pub bounds-memory-at : goal.bounds-memory-at
 bounds-memory-at t c = let e = length_more c.args.number (omega arith) (omega arith) in omega arith
 
-pub overflow-add-result : goal.overflow-add-result
-overflow-add-result t c = let e = length_small (c.args.number / 10) (omega arith) in omega arith
+pub overflow_add-result : goal.overflow_add-result
+overflow_add-result t c = let e = length_small (c.args.number / 10) (omega arith) in omega arith
 
 pub returns : goal.returns
 returns t c =
     let e = length_more c.args.number (omega arith) (omega arith) in
-    let after = ap (λ m. set m c.write-digits-at.result (48 + c.args.number % 10)) c.write-digits-at.ensures.after ∙ last_in_front c.args.number c.write-digits-at.result c.args.memory.now (omega arith) (omega arith) c.write-digits-at.ensures.value (omega arith) in
+    let after = ap (λ m. set m c.write_digits-at.result (48 + c.args.number % 10)) c.write_digits-at.ensures.after ∙ last_in_front c.args.number c.write_digits-at.result c.args.memory.now (omega arith) (omega arith) c.write_digits-at.ensures.value (omega arith) in
     record { value = omega arith; after = after }

@@ -5,4 +5,4 @@ use Rattle.monitor.proofs.report.bad_page.Goals as goal
 
 pub unwrap-requires : goal.unwrap-requires
 unwrap-requires c =
-    ok_unless c.add-count.result _ _ c.add-count.ensures (position_fits (shown c.blank-page.result) c.args.position c.blank-page.ensures (omega arith))
+    ok_unless c.add_count.result _ _ c.add_count.ensures (position_fits (shown c.blank-page.result) c.args.position c.blank-page.ensures (omega arith))

@@ -7,7 +7,7 @@ use Rattle.monitor.proofs.report.report.Goals as goal
 pub returns : goal.returns
 returns c =
     let text = c.args.text.now in
-    let value = c.page-of.ensures in
+    let value = c.page_of.ensures in
     record {
       value = value;
       whole = λ ends. value ∙ ap (λ t. report_of (reading_of text t)) ends;

@@ -3,8 +3,8 @@ use Rattle.receivers.specs.Blocks.{inside}
 use Rattle.receivers.specs.Firsts.{first_found}
 use Rattle.receivers.proofs.plan.ChannelPlan.channel_of.Goals as goal
 
-pub channel-in-requires : goal.channel-in-requires
-channel-in-requires c =
+pub channel_in-requires : goal.channel_in-requires
+channel_in-requires c =
     let v = c.args.self.now in
     let blocks = take v.count v.blocks in
     let found = first_found (inside c.args.frequency blocks) (length blocks) c.in-Some.block (sym c.in-Some.ensures) in

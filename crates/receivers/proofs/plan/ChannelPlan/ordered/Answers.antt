@@ -3,14 +3,14 @@ use Rattle.receivers.specs.Blocks.{misplaced}
 use Rattle.receivers.specs.Firsts.{first_found, none_passes}
 use Rattle.receivers.proofs.plan.ChannelPlan.ordered.Goals as goal
 
-pub overflow-cast-result : goal.overflow-cast-result
-overflow-cast-result c =
+pub overflow_cast-result : goal.overflow_cast-result
+overflow_cast-result c =
     let blocks = take c.args.count c.args.blocks in
     let found = first_found (misplaced blocks) (length blocks) c.in-Some.block (sym c.in-Some.ensures) in
     let few : length blocks ≤ 16 = search rules in
     omega (arith, found.0)
 
-pub invariant-of-result : goal.invariant-of-result
-invariant-of-result c =
+pub invariant_of-result : goal.invariant_of-result
+invariant_of-result c =
     let blocks = take c.args.count c.args.blocks in
     (search rules, (search rules, (search rules, (search rules, (search rules, (none_passes (misplaced blocks) (length blocks) (sym c.in-None.ensures), (search rules, tt)))))))

@@ -10,8 +10,8 @@ loop-k-preserved c =
     let k = c.loop-k.k in
     let f = block_of c.args.bytes.now c.args.count in (
       search rules,
-      take_more_set _ k c.read-block.result (search rules)
-          ∙ ap (λ front. front ++ c.read-block.result ∷ []) c.loop-k.invariant.1
-          ∙ ap (λ b. map f (range_with_len 0 k) ++ b ∷ []) c.read-block.ensures
+      take_more_set _ k c.read_block.result (search rules)
+          ∙ ap (λ front. front ++ c.read_block.result ∷ []) c.loop-k.invariant.1
+          ∙ ap (λ b. map f (range_with_len 0 k) ++ b ∷ []) c.read_block.ensures
           ∙ sym (map-range_with_len_more f 0 k k (omega arith)),
     )

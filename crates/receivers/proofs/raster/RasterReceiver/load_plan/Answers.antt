@@ -8,10 +8,10 @@ use Rattle.receivers.proofs.raster.RasterReceiver.load_plan.Goals as goal
 pub returns : goal.returns
 returns c =
     let v = c.args.self.now in
-    let e = c.in-ok-plan.ensures in
+    let e = c.in_ok-plan.ensures in
     record {
       answers = ap load_answer e;
       changes =
-          load_leaves (laid c.in-ok-plan.plan) (laid v.plan) v.channel v.gain v.squelch
+          load_leaves (laid c.in_ok-plan.plan) (laid v.plan) v.channel v.gain v.squelch
           ∙ ap (λ r. loaded r (raster_means v)) e;
     }

@@ -1,8 +1,8 @@
 use Rattle.receivers.specs.RasterLaws.{found_in_plan}
 use Rattle.receivers.proofs.raster.RasterReceiver.tune.Goals as goal
 
-pub invariant-of-self : goal.invariant-of-self
-invariant-of-self c =
+pub invariant_of-self : goal.invariant_of-self
+invariant_of-self c =
     let v = c.args.self.now in
     let b = found_in_plan v.plan c.args.frequency c.in-Some.channel c.in-Some.ensures in
     (b.0, (b.1, (v.loudest, (v.tightest, tt))))

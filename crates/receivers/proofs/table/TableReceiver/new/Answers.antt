@@ -3,6 +3,6 @@ use Rattle.receivers.specs.Tables.{whole, Held}
 use Rattle.receivers.specs.TableLaws.{first_held}
 use Rattle.receivers.proofs.table.TableReceiver.new.Goals as goal
 
-pub invariant-of-result : goal.invariant-of-result
-invariant-of-result c =
+pub invariant_of-result : goal.invariant_of-result
+invariant_of-result c =
     (search rules, (refl, (subst (Held whole) (sym c.first_numbers.ensures) (first_held whole refl), tt)))

@@ -3,7 +3,7 @@ use Rattle.receivers.specs.Tables.{Held}
 use Rattle.receivers.specs.TableLaws.{first_held}
 use Rattle.receivers.proofs.table.TableReceiver.set_up.Goals as goal
 
-pub invariant-of-self : goal.invariant-of-self
-invariant-of-self c =
+pub invariant_of-self : goal.invariant_of-self
+invariant_of-self c =
     let v = c.args.coverage in
     (search rules, (search rules, (subst (Held v) (sym c.first_numbers.ensures) (first_held v (search rules)), tt)))

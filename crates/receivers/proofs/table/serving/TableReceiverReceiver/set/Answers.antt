@@ -4,20 +4,20 @@ use Rattle.receivers.specs.Tables.{table_reading, table_taking}
 use Rattle.receivers.specs.TableLaws.{set_held, set_reads}
 use Rattle.receivers.proofs.table.serving.TableReceiverReceiver.set.Goals as goal
 
-pub invariant-of-self : goal.invariant-of-self
-invariant-of-self c =
+pub invariant_of-self : goal.invariant_of-self
+invariant_of-self c =
     let v = c.args.self.now in
-    let e = sym c.in-ok-kept.ensures in
-    (search rules, (v.suited, (set_held v.coverage v.suited v.numbers v.held v.fifteen c.args.setting.number c.args.number c.in-ok-kept.kept e, tt)))
+    let e = sym c.in_ok-kept.ensures in
+    (search rules, (v.suited, (set_held v.coverage v.suited v.numbers v.held v.fifteen c.args.setting.number c.args.number c.in_ok-kept.kept e, tt)))
 
 pub returns : goal.returns
 returns c =
     let v = c.args.self.now in
     let k = c.args.setting.number in
-    let e = sym c.in-ok-kept.ensures in
+    let e = sym c.in_ok-kept.ensures in
     record {
-      answers = c.in-ok-kept.ensures;
+      answers = c.in_ok-kept.ensures;
       changes = ap (λ f. record { reading = f; taking = table_taking v.coverage })
-          (set_reads v.coverage v.suited v.numbers v.fifteen k c.args.number c.in-ok-kept.kept e
+          (set_reads v.coverage v.suited v.numbers v.fifteen k c.args.number c.in_ok-kept.kept e
           ∙ ap (λ t. readings_after t k (table_reading v.coverage.mask v.numbers)) (sym e));
     }
