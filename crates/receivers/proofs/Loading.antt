@@ -1,5 +1,5 @@
 -- The relations of plans, and the definitions, agree.
-use Rattle.std.proofs.Common.{◌≡◌, ℕ, ◌+◌, ◌-◌, ◌*◌, ◌/◌, ◌<◌, ◌≤◌, Bool, true, false, cond, leb, List, length, Some, None, Ok, Err, Option, Result, sym, refl, ap, ◌∙◌, subst, mul_comm, mul-le-mul_left, arith}
+use Rattle.std.proofs.Common.{◌≡◌, ℕ, ◌-◌, ◌/◌, ◌<◌, ◌≤◌, Bool, true, false, cond, leb, List, length, Some, None, Ok, Err, Option, Result, sym, refl, ap, ◌∙◌, subst, mul_comm, mul-le-mul_left, arith}
 use Rattle.std.proofs.lemmas.Nat.{le-div}
 use Rattle.std.proofs.lemmas.List.FromFn.{length-map-range_with_len}
 use Rattle.std.proofs.lemmas.Bool.{and_parts, leb-true}
@@ -8,7 +8,7 @@ use Rattle.receivers.specs.declared.rejections.Rejection.{Rejection}
 use Rattle.receivers.specs.declared.rejections.Rejection.TheVariants.{SetUp, PlanLength, PlanRaster, PlanBlock}
 use Rattle.receivers.specs.Blocks.{InOrder, block_at, first_misplaced, inside, misplaced}
 use Rattle.receivers.specs.Plans.{Plan, block_count, block_of, blocks_of, counted, ordered, plan_of, unless, word}
-use Rattle.receivers.specs.Rasters.{block_around, channel_in, frequency_of, raster_taking, tuned_to, channel_at}
+use Rattle.receivers.specs.Rasters.{channel_in, frequency_of, raster_taking, tuned_to, channel_at}
 use Rattle.receivers.specs.Loading.{ChannelOf, HighestChannel, Rejected, RejectedByCauses, TunedByPlans}
 use Rattle.receivers.specs.Firsts.{first_found, first_is, none_passes}
 use Rattle.receivers.specs.RasterLaws.{around_is, channel_below, channel_found, inside_bounds, tuned_kept}

@@ -1,5 +1,5 @@
 -- A raster receiver is lawful, whatever plan was loaded and whatever was set.
-use Rattle.std.specs.Prelude.{◌≡◌, ℕ, zero, suc, ◌+◌, ◌-◌, ◌*◌, ◌/◌, ◌<◌, ◌≤◌, min, Bool, true, false, cond, ◌||◌, List, length, Some, None, Ok, Err, Option, ◌==◌, nat_eq, refl}
+use Rattle.std.specs.Prelude.{◌≡◌, ℕ, zero, suc, ◌-◌, ◌*◌, ◌/◌, ◌<◌, ◌≤◌, Bool, true, false, cond, ◌||◌, length, Some, None, Ok, Err, Option, ◌==◌, nat_eq, refl}
 use Rattle.std.proofs.Common.{sym, ap, subst, ◌∙◌, inl, inr, arith}
 use Rattle.std.proofs.Math.Path.{fun_ext}
 use Rattle.std.proofs.Math.Nat.{mul-div-le, mul-div_right}
@@ -10,10 +10,10 @@ use Rattle.commands.specs.Settings.{lawful}
 use Rattle.receivers.specs.declared.plan.Channel.{Channel}
 use Rattle.receivers.specs.declared.plan.ChannelPlan.{ChannelPlan}
 use Rattle.receivers.specs.declared.refusals.Refusal.TheVariants.{NotFitted, NotTaken}
-use Rattle.receivers.specs.Meaning.{Taking, Lawful, plainly}
-use Rattle.receivers.specs.Blocks.{InOrder, Reachable, block_at, first_below, inside, misplaced}
+use Rattle.receivers.specs.Meaning.{Lawful, plainly}
+use Rattle.receivers.specs.Blocks.{InOrder, Reachable, block_at, inside}
 use Rattle.receivers.specs.Plans.{Plan, laid}
-use Rattle.receivers.specs.Rasters.{block_around, channel_at, channel_in, channel_of, first_channel, frequency_of, loaded, raster, raster_reading, raster_taking, tuned_to}
+use Rattle.receivers.specs.Rasters.{block_around, channel_at, channel_in, channel_of, first_channel, frequency_of, loaded, raster, raster_taking, tuned_to}
 use Rattle.receivers.specs.Firsts.{first_is, first_found}
 use Rattle.receivers.specs.Frequencies.{frequency_lawful}
 
@@ -77,6 +77,10 @@ pub found_in_plan : (p : ChannelPlan) (n : ℕ) (c : Channel) → Some c ≡ cha
 found_in_plan p n c e =
     let b = found_in_block (laid p) n c (sym e) in
     (omega (arith, b.0, length-take p.count p.blocks), b.1)
+
+-- a channel as it is kept is in a block of the plan
+pub kept_in_block : (p : ChannelPlan) (c : Channel) → length p.blocks ≡ 16 → p.count ≤ 16 → c.block < p.count → frequency_of (laid p) c ≤ (block_at (laid p).blocks c.block).last → InBlock (laid p) c
+kept_in_block p c sixteen few there within = (omega (arith, length-take p.count p.blocks), within)
 
 -- a plan that is loaded leaves the levels
 pub load_leaves : (p q : Plan) (c : Channel) (gain squelch : ℕ) → raster p first_channel gain squelch ≡ loaded (Ok p) (raster q c gain squelch)

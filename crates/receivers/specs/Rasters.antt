@@ -1,12 +1,11 @@
 -- The raster receiver. Assumes nothing.
 use Rattle.std.specs.Prelude.{ℕ, ◌+◌, ◌-◌, ◌*◌, ◌/◌, cond, ◌||◌, [], ◌∷◌, length, Some, None, Ok, Err, Option, Result, ◌==◌}
-use Rattle.receivers.specs.declared.blocks.Block.{Block}
 use Rattle.receivers.specs.declared.plan.Channel.{Channel}
 use Rattle.receivers.specs.declared.refusals.Refusal.TheVariants.{NotFitted, NotTaken}
 use Rattle.receivers.specs.declared.rejections.Rejection.{Rejection}
 use Rattle.receivers.specs.Meaning.{Meaning, Taking, plainly, readings_after}
 use Rattle.receivers.specs.Blocks.{block_at, first_below, inside}
-use Rattle.receivers.specs.Plans.{Plan, plan_of}
+use Rattle.receivers.specs.Plans.{Plan}
 
 -- the frequency of a channel: the first of its block, and as many steps of the raster as its number says
 abbrev pub frequency_of : Plan → Channel → ℕ

@@ -1,16 +1,16 @@
 -- A table receiver is lawful, whatever it was set up for and whatever was set.
-use Rattle.std.specs.Prelude.{◌≡◌, ℕ, zero, suc, ◌-◌, ◌*◌, ◌/◌, ◌%◌, ◌<◌, ◌≤◌, Bool, true, false, cond, not, ◌&&◌, leb, ◌≢◌, List, length, set, Some, None, Ok, Err, ◌==◌, nat_le, slice_index, slice_set, refl}
-use Rattle.std.proofs.Common.{sym, ap, ◌∙◌, inl, inr, arith, div-add-mod', mul-le-mul_left, get_or-set_same, get_or-set_other}
+use Rattle.std.specs.Prelude.{◌≡◌, ℕ, zero, suc, ◌-◌, ◌*◌, ◌/◌, ◌%◌, ◌<◌, ◌≤◌, Bool, true, false, cond, ◌&&◌, leb, ◌≢◌, List, length, Some, None, Ok, Err, ◌==◌, nat_le, slice_index, slice_set, refl}
+use Rattle.std.proofs.Common.{inl, inr, arith, div-add-mod', mul-le-mul_left, get_or-set_same, get_or-set_other}
 use Rattle.std.proofs.Math.Path.{fun_ext}
 use Rattle.std.proofs.Math.Nat.{div-add-mod, mul-mod_right}
 use Rattle.std.proofs.lemmas.Nat.{le-div}
 use Rattle.std.proofs.lemmas.Bool.Decides.{nat_tests, Decides-below_and}
-use Rattle.std.proofs.lemmas.Bool.{and_parts, cases_eq, eq-eqb, eqb-true, ne_eqb, le-leb, leb-true, lt-leb}
+use Rattle.std.proofs.lemmas.Bool.{and_parts, cases_eq, eq-eqb, ne_eqb, le-leb, leb-true, lt-leb}
 use Rattle.commands.specs.Settings.{between, lawful}
 use Rattle.receivers.specs.declared.refusals.Refusal.TheVariants.{NotFitted, NotTaken}
 use Rattle.receivers.specs.declared.table.Coverage.{Coverage}
 use Rattle.receivers.specs.Meaning.{Taking, Lawful, readings_after}
-use Rattle.receivers.specs.Tables.{bit, fitted, first_numbers, holds, Held, suits, table, table_taking, table_reading, whole}
+use Rattle.receivers.specs.Tables.{bit, fitted, first_numbers, holds, Held, suits, table, table_taking, table_reading}
 use Rattle.receivers.specs.Frequencies.{frequency_lawful}
 
 pub fitted_below : (mask s : ℕ) → fitted mask s ≡ true → s < 15

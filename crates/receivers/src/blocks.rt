@@ -23,7 +23,7 @@ pub(crate) trait Sought {
 
 // The first block that is wanted.
 pub(crate) fn first_of<S: Sought>(blocks: &[Block], sought: &S) -> Option<usize>
-    ensures { result ≡ first_below (wanted sought.now blocks.now) (length blocks.now) }
+    ensures { result ≡ first_below (S.wanted sought.now blocks.now) (length blocks.now) }
 {
     for k in 0..blocks.len() {
         if sought.wants(blocks, k) {

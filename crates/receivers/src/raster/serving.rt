@@ -5,8 +5,7 @@ ghost use Rattle.receivers.specs.Meaning.{changed, plainly};
 ghost use Rattle.receivers.specs.Piles.{raster_means};
 ghost use Rattle.receivers.specs.Plans.{plan_of, laid};
 ghost use Rattle.receivers.specs.Rasters.{load_answer, loaded, new_raster};
-ghost use Rattle.std.proofs.Common.{rules};
-ghost use Rattle.receivers.specs.RasterLaws.{raster_laws};
+ghost use Rattle.receivers.specs.RasterLaws.{kept_in_block, raster_laws};
 
 use super::RasterReceiver;
 use crate::plan::{Channel, ChannelPlan};
@@ -105,7 +104,7 @@ impl Receiver for RasterReceiver {
 
     ghost sound = { λ x.
         let p = x.plan in
-        raster_laws (laid p) p.ordered p.step p.reachable x.channel (Prim.search rules, x.within) x.gain x.squelch x.loudest x.tightest };
+        raster_laws (laid p) p.ordered p.step p.reachable x.channel (kept_in_block p x.channel p.sixteen p.few x.there x.within) x.gain x.squelch x.loudest x.tightest };
 
     fn try_number(&self, setting: Setting, number: u64) -> Result<u64, Refusal> {
         match setting {

@@ -13,4 +13,12 @@ overflow_cast-result c =
 pub invariant_of-result : goal.invariant_of-result
 invariant_of-result c =
     let blocks = take c.args.count c.args.blocks in
-    (search rules, (search rules, (search rules, (search rules, (search rules, (none_passes (misplaced blocks) (length blocks) (sym c.in-None.ensures), (search rules, tt)))))))
+    record {
+      sixteen = search rules;
+      some = search rules;
+      few = search rules;
+      step = search rules;
+      fine = search rules;
+      ordered = none_passes (misplaced blocks) (length blocks) (sym c.in-None.ensures);
+      reachable = search rules;
+    }

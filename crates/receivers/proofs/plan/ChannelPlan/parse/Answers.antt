@@ -8,9 +8,9 @@ pub returns-in_default : goal.returns-in_default
 unfolding plan_of
 returns-in_default c = search rules
 
-pub returns-then-is_between : goal.returns-then-raster-lt1
+pub returns-then-not-is_between : goal.returns-then-not-is_between
 unfolding plan_of
-returns-then-is_between c = search rules
+returns-then-not-is_between c = search rules
 
 pub returns : goal.returns
 unfolding plan_of

@@ -1,4 +1,4 @@
-use Rattle.std.proofs.Common.{ap, ◌∙◌, rules}
+use Rattle.std.proofs.Common.{ap, ◌∙◌}
 use Rattle.receivers.specs.Piles.{raster_means}
 use Rattle.receivers.specs.Plans.{laid}
 use Rattle.receivers.specs.Rasters.{load_answer, loaded}

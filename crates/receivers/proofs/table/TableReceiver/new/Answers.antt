@@ -5,4 +5,4 @@ use Rattle.receivers.proofs.table.TableReceiver.new.Goals as goal
 
 pub invariant_of-result : goal.invariant_of-result
 invariant_of-result c =
-    (search rules, (refl, (subst (Held whole) (sym c.first_numbers.ensures) (first_held whole refl), tt)))
+    record { fifteen = search rules; suited = refl; held = subst (Held whole) (sym c.first_numbers.ensures) (first_held whole refl) }

@@ -6,4 +6,4 @@ use Rattle.receivers.proofs.table.TableReceiver.set_up.Goals as goal
 pub invariant_of-self : goal.invariant_of-self
 invariant_of-self c =
     let v = c.args.coverage in
-    (search rules, (search rules, (subst (Held v) (sym c.first_numbers.ensures) (first_held v (search rules)), tt)))
+    record { fifteen = search rules; suited = search rules; held = subst (Held v) (sym c.first_numbers.ensures) (first_held v (search rules)) }

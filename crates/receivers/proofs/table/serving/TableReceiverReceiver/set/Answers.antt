@@ -1,4 +1,4 @@
-use Rattle.std.proofs.Common.{◌≡◌, sym, ap, ◌∙◌, rules}
+use Rattle.std.proofs.Common.{sym, ap, ◌∙◌, rules}
 use Rattle.receivers.specs.Meaning.{readings_after}
 use Rattle.receivers.specs.Tables.{table_reading, table_taking}
 use Rattle.receivers.specs.TableLaws.{set_held, set_reads}
@@ -8,7 +8,11 @@ pub invariant_of-self : goal.invariant_of-self
 invariant_of-self c =
     let v = c.args.self.now in
     let e = sym c.in_ok-kept.ensures in
-    (search rules, (v.suited, (set_held v.coverage v.suited v.numbers v.held v.fifteen c.args.setting.number c.args.number c.in_ok-kept.kept e, tt)))
+    record {
+      fifteen = search rules;
+      suited = v.suited;
+      held = set_held v.coverage v.suited v.numbers v.held v.fifteen c.args.setting.number c.args.number c.in_ok-kept.kept e;
+    }
 
 pub returns : goal.returns
 returns c =
