@@ -14,14 +14,11 @@ invariant_of-self c =
       held = set_held v.coverage v.suited v.numbers v.held v.fifteen c.args.setting.number c.args.number c.in_ok-kept.kept e;
     }
 
-pub returns : goal.returns
-returns c =
+pub returns-clause-changes : goal.returns-clause-changes
+returns-clause-changes c =
     let v = c.args.self.now in
     let k = c.args.setting.number in
     let e = sym c.in_ok-kept.ensures in
-    record {
-      answers = c.in_ok-kept.ensures;
-      changes = ap (λ f. record { reading = f; taking = table_taking v.coverage })
-          (set_reads v.coverage v.suited v.numbers v.fifteen k c.args.number c.in_ok-kept.kept e
-          ∙ ap (λ t. readings_after t k (table_reading v.coverage.mask v.numbers)) (sym e));
-    }
+    ap (λ f. record { reading = f; taking = table_taking v.coverage })
+    (set_reads v.coverage v.suited v.numbers v.fifteen k c.args.number c.in_ok-kept.kept e
+    ∙ ap (λ t. readings_after t k (table_reading v.coverage.mask v.numbers)) (sym e))
