@@ -1,7 +1,9 @@
 -- Each fault of a request comes under its cause, and no other. Assumes nothing.
-use Rattle.std.proofs.Common.{◌≡◌, ℕ, ◌≤◌, Bool, true, false, cond, eqb, ◌⊎◌, List, [], ◌∷◌, ◌++◌, length, get_or, replicate, is_some, Some, None, Ok, Err, Option, Result, sym, refl, ap, ◌∙◌, subst, inl, inr, arith}
-use lib.ListN.{length-replicate}
-use Rattle.std.proofs.lemmas.List.{append-nil}
+use Rattle.std.proofs.Common.{◌≡◌, ℕ, ◌≤◌, Bool, true, false, cond, eqb, ◌⊎◌, List, [], ◌∷◌, ◌++◌, length, get_or, replicate, Some, None, Ok, Err, Option, Result, sym, refl, ap, ◌∙◌, subst, inl, inr, arith}
+use Rattle.std.specs.Prelude.{find, slice_get}
+use Rattle.std.specs.Option.{option_to_list}
+use Rattle.std.proofs.lemmas.List.{append-nil, length-replicate}
+use Rattle.std.proofs.lemmas.List.Folds.{Any-from_list_any, list_any_at}
 use Rattle.std.proofs.lemmas.Bool.{both_ways, eq-eqb, eqb-true, eqb-false, and_parts, and_from, or_cases, or_left, or_right}
 use Rattle.framing.specs.Frames.{command_of}
 use Rattle.commands.specs.declared.settings.Setting.{Setting}
@@ -11,21 +13,21 @@ use Rattle.commands.specs.declared.faults.Fault.TheVariants.{UnknownCommand, Unk
 use Rattle.commands.specs.declared.requests.Shown.TheVariants.{VfoA, VfoB}
 use Rattle.commands.specs.declared.requests.VfoCommand.{VfoCommand}
 use Rattle.commands.specs.declared.requests.VfoCommand.TheVariants.{Select, Show, Copy, Exchange}
-use Rattle.commands.specs.Rows.{rows, row_of, row_for, first, has_command, has_sub, sub_bytes, read_bytes, write_bytes}
-use Rattle.commands.specs.Requests.{Asked, read, write, vfo, request_of, by_vfo, vfo_request, vfo_under, by_command, first_byte, next_of, data_place, data_of, is_reading, is_writing}
+use Rattle.commands.specs.Rows.{rows, row_of, row_for, is_known, has_command, has_sub, read_bytes, write_bytes}
+use Rattle.commands.specs.Requests.{Asked, read, write, vfo, request_of, by_vfo, vfo_request, vfo_under, by_command, next_of, data_place, data_of, is_reading, is_writing}
 use Rattle.commands.specs.Asking.{vfo_bytes, named, Askable, Asks, HasCommand, Under, HasName, Caused, FaultsByTheirCauses}
-use Rattle.commands.proofs.Searching.{first_passes, first_fails}
-use Rattle.commands.proofs.Tabled.{Findable, Sized, first_holds, found_findable, found_sized, listed_row}
+use Rattle.commands.proofs.Searching.{found, none_found}
+use Rattle.commands.proofs.Tabled.{Tabled, tabled, found_tabled, listed_row}
 use Rattle.commands.proofs.Asking.{requests_by_their_bytes, vfo_code, writing_askable}
 
 -- some writing of a row
 abbrev wrote : Row → Asked
 wrote r = write r.setting (replicate {A = ℕ} r.bytes 0) (data_place r)
 
-wrote_askable : (r : Row) → Findable r → Sized r → Askable (wrote r)
-wrote_askable r found z =
+wrote_askable : (r : Row) → Tabled r → Askable (wrote r)
+wrote_askable r z =
     let long : length (replicate {A = ℕ} r.bytes 0) ≡ r.bytes = length-replicate r.bytes 0 in
-    writing_askable r found z (replicate r.bytes 0) (or_left _ _ (eq-eqb _ r.bytes long))
+    writing_askable r z (replicate r.bytes 0) (or_left _ _ (eq-eqb _ r.bytes long))
 
 -- with the name of a request a body has its command, and if it asks for the request it has its name
 
@@ -34,19 +36,19 @@ under_command body command rest None h = absurd h
 under_command body command rest (Some r) h = h.0
 
 name_command : (body : List ℕ) (q : Asked) → HasName body q → HasCommand body q
-name_command body (read s) h = under_command body (λ r. r.read) (λ r. sub_bytes r.sub) (row_of s) h
-name_command body (write s bytes place) h = under_command body (λ r. r.write) (λ r. sub_bytes r.sub) (row_of s) h
+name_command body (read s) h = under_command body (λ r. r.read) (λ r. option_to_list r.sub) (row_of s) h
+name_command body (write s bytes place) h = under_command body (λ r. r.write) (λ r. option_to_list r.sub) (row_of s) h
 name_command body (vfo v) h = h.0
 
-sub_stands : (sub : Option ℕ) (ys : List ℕ) → has_sub (first_byte (sub_bytes sub ++ ys)) sub ≡ true
+sub_stands : (sub : Option ℕ) (ys : List ℕ) → has_sub (slice_get (option_to_list sub ++ ys) 0) sub ≡ true
 sub_stands None ys = refl
 sub_stands (Some k) ys = eq-eqb k k refl
 
 stands_under : (body : List ℕ) (command : Row → ℕ) (a t : ℕ) (ys : List ℕ) (s : Setting) → s.number ≤ 14 →
-    body ≡ a ∷ t ∷ (named (λ r. command r ∷ sub_bytes r.sub) (row_of s) ++ ys) → Under body command (row_of s)
+    body ≡ a ∷ t ∷ (named (λ r. command r ∷ option_to_list r.sub) (row_of s) ++ ys) → Under body command (row_of s)
 stands_under body command a t ys s h e =
     let l = listed_row s h in
-    let f = e ∙ ap (λ o. a ∷ t ∷ (named (λ r. command r ∷ sub_bytes r.sub) o ++ ys)) l.is in
+    let f = e ∙ ap (λ o. a ∷ t ∷ (named (λ r. command r ∷ option_to_list r.sub) o ++ ys)) l.is in
     subst (Under body command) (sym l.is)
     (ap command_of f, ap (λ xs. has_sub (next_of xs) l.row.sub) f ∙ sub_stands l.row.sub ys)
 
@@ -54,7 +56,7 @@ asks_name : (body : List ℕ) (q : Asked) → Asks body q → HasName body q
 asks_name body (read s) h = stands_under body (λ r. r.read) h.1.0 h.1.1.0 [] s h.0 h.1.1.1
 asks_name body (write s bytes place) h = stands_under body (λ r. r.write) h.1.0 h.1.1.0 bytes s h.0.0 h.1.1.1
 asks_name body (vfo v) h =
-    (ap command_of h.1.1.1, ap next_of h.1.1.1 ∙ ap first_byte (append-nil (vfo_bytes v)))
+    (ap command_of h.1.1.1, ap next_of h.1.1.1 ∙ ap (λ xs. slice_get xs 0) (append-nil (vfo_bytes v)))
 
 -- a row that is found has a request
 
@@ -63,25 +65,35 @@ row_command c r h =
     elim (or_cases (eqb r.read c) (eqb r.write c) h)
     [ inl e ↦ inl (sym (eqb-true r.read c e)) | inr e ↦ inr (sym (eqb-true r.write c e)) ]
 
-row_named : (body : List ℕ) (r : Row) → Findable r → Sized r → has_command (command_of body) r ≡ true → has_sub (next_of body) r.sub ≡ true →
+row_named : (body : List ℕ) (r : Row) → Tabled r → has_command (command_of body) r ≡ true → has_sub (next_of body) r.sub ≡ true →
     (q : Asked) × (Askable q × HasName body q)
-row_named body r found z h sub =
+row_named body r z h sub =
     elim (row_command (command_of body) r h) [
-      | inl e ↦ (read r.setting, (z.listed, subst (Under body (λ x. x.read)) (sym found.by_setting) (e, sub)))
-      | inr e ↦ (wrote r, (wrote_askable r found z, subst (Under body (λ x. x.write)) (sym found.by_setting) (e, sub)))
+      | inl e ↦ (read r.setting, (z.listed, subst (Under body (λ x. x.read)) (sym z.by_setting) (e, sub)))
+      | inr e ↦ (wrote r, (wrote_askable r z, subst (Under body (λ x. x.write)) (sym z.by_setting) (e, sub)))
     ]
 
-row_commanded : (body : List ℕ) (r : Row) → Findable r → Sized r → has_command (command_of body) r ≡ true → (q : Asked) × (Askable q × HasCommand body q)
-row_commanded body r found z h =
+row_commanded : (body : List ℕ) (r : Row) → Tabled r → has_command (command_of body) r ≡ true → (q : Asked) × (Askable q × HasCommand body q)
+row_commanded body r z h =
     elim (row_command (command_of body) r h) [
-      | inl e ↦ (read r.setting, (z.listed, e ∙ ap (λ o. get_or (named read_bytes o) 0 0) (sym found.by_setting)))
-      | inr e ↦ (wrote r, (wrote_askable r found z, e ∙ ap (λ o. get_or (named write_bytes o) 0 0) (sym found.by_setting)))
+      | inl e ↦ (read r.setting, (z.listed, e ∙ ap (λ o. get_or (named read_bytes o) 0 0) (sym z.by_setting)))
+      | inr e ↦ (wrote r, (wrote_askable r z, e ∙ ap (λ o. get_or (named write_bytes o) 0 0) (sym z.by_setting)))
     ]
+
+known_commanded : (body : List ℕ) → is_known (command_of body) ≡ true → (q : Asked) × (Askable q × HasCommand body q)
+known_commanded body h =
+    let some = Any-from_list_any (has_command (command_of body)) rows h in
+    row_commanded body some.1 (tabled some.1 (some.0, some.2, some.3)) some.4
 
 -- where none is found, no request has the command, or its name
 
-none_of : (p : Row → Bool) → first p rows ≡ None → (s : Setting) (r : Row) → row_of s ≡ Some r → p r ≡ true → ⊥
-none_of p none s r e h = both_ways (p r) (first_holds (λ x. p x ≡ false) _ rows r (first_fails p rows none) e) h
+none_of : (p : Row → Bool) → find p rows ≡ None → (s : Setting) (r : Row) → row_of s ≡ Some r → p r ≡ true → ⊥
+none_of p none s r e h = both_ways (p r) (none_found p rows r none (found _ rows r e).1) h
+
+not_known : (c : ℕ) → is_known c ≡ false → (s : Setting) (r : Row) → row_of s ≡ Some r → has_command c r ≡ true → ⊥
+not_known c none s r e h =
+    let place = (found _ rows r e).1 in
+    both_ways (is_known c) none (list_any_at (has_command c) rows place.0 r place.1 (ap (has_command c) place.2 ∙ h))
 
 has_read : (c : ℕ) (r : Row) → c ≡ r.read → has_command c r ≡ true
 has_read c r e = or_left (eqb r.read c) (eqb r.write c) (eq-eqb r.read c (sym e))
@@ -100,18 +112,18 @@ none_named body other none (write s bytes place) a h =
     none_of _ none s l.row l.is (and_from _ _ (has_write (command_of body) l.row u.0) u.1)
 none_named body other none (vfo v) a h = other h.0
 
-none_commanded : (body : List ℕ) → (command_of body ≡ 0x07 → ⊥) → first (has_command (command_of body)) rows ≡ None → (q : Asked) → Askable q → HasCommand body q → ⊥
+none_commanded : (body : List ℕ) → (command_of body ≡ 0x07 → ⊥) → is_known (command_of body) ≡ false → (q : Asked) → Askable q → HasCommand body q → ⊥
 none_commanded body other none (read s) a h =
     let l = listed_row s a in
-    none_of _ none s l.row l.is (has_read (command_of body) l.row (h ∙ ap (λ o. get_or (named read_bytes o) 0 0) l.is))
+    not_known _ none s l.row l.is (has_read (command_of body) l.row (h ∙ ap (λ o. get_or (named read_bytes o) 0 0) l.is))
 none_commanded body other none (write s bytes place) a h =
     let l = listed_row s a.0 in
-    none_of _ none s l.row l.is (has_write (command_of body) l.row (h ∙ ap (λ o. get_or (named write_bytes o) 0 0) l.is))
+    not_known _ none s l.row l.is (has_write (command_of body) l.row (h ∙ ap (λ o. get_or (named write_bytes o) 0 0) l.is))
 none_commanded body other none (vfo v) a h = other h
 
 -- the same under 07
 
-vfo_known : (v : VfoCommand) (k : ℕ) → Some k ≡ first_byte (vfo_bytes v) → vfo_under k ≡ Some v
+vfo_known : (v : VfoCommand) (k : ℕ) → Some k ≡ slice_get (vfo_bytes v) 0 → vfo_under k ≡ Some v
 vfo_known Select k e = absurd (grind arith)
 vfo_known (Show VfoA) k e = let n : k ≡ 0x00 = cc in ap vfo_under n
 vfo_known (Show VfoB) k e = let n : k ≡ 0x01 = cc in ap vfo_under n
@@ -122,11 +134,11 @@ none_vfo : (body : List ℕ) (k : ℕ) → command_of body ≡ 0x07 → next_of 
 none_vfo body k c n none (read s) a h =
     let l = listed_row s a in
     let u = subst (Under body (λ r. r.read)) l.is h in
-    both_ways _ (found_sized _ l.row l.is).read_no_vfo (eq-eqb l.row.read 0x07 (sym u.0 ∙ c))
+    both_ways _ l.tabled.read_no_vfo (eq-eqb l.row.read 0x07 (sym u.0 ∙ c))
 none_vfo body k c n none (write s bytes place) a h =
     let l = listed_row s a.0 in
     let u = subst (Under body (λ r. r.write)) l.is h in
-    both_ways _ (found_sized _ l.row l.is).write_no_vfo (eq-eqb l.row.write 0x07 (sym u.0 ∙ c))
+    both_ways _ l.tabled.write_no_vfo (eq-eqb l.row.write 0x07 (sym u.0 ∙ c))
 none_vfo body k c n none (vfo v) a h =
     let known = vfo_known v k (sym n ∙ h.1) in
     grind arith
@@ -148,19 +160,18 @@ module _ (body : List ℕ) (f : Fault) (whole : request_of body ≡ Err f) where
       go (Some v) u true g e = absurd (grind arith)
       go (Some v) u false g e =
           let same : WrongLength (length body) ≡ f = cc in
-          subst (Caused body) same (refl, (vfo v, (tt, (c, n ∙ sym (ap first_byte (vfo_code k v u))))), no_asks body f whole)
+          subst (Caused body) same (refl, (vfo v, (tt, (c, n ∙ sym (ap (λ xs. slice_get xs 0) (vfo_code k v u))))), no_asks body f whole)
 
-  unknown_causes : (command_of body ≡ 0x07 → ⊥) → row_for (command_of body) (next_of body) ≡ None → (o : Option Row) → first (has_command (command_of body)) rows ≡ o →
-      ◌≡◌ {A = Result Asked Fault} (Err (cond (is_some o) UnknownSubCommand UnknownCommand)) (Err f) → Caused body f
-  unknown_causes other none None h e =
+  unknown_causes : (command_of body ≡ 0x07 → ⊥) → row_for (command_of body) (next_of body) ≡ None → (b : Bool) → is_known (command_of body) ≡ b →
+      ◌≡◌ {A = Result Asked Fault} (Err (cond b UnknownSubCommand UnknownCommand)) (Err f) → Caused body f
+  unknown_causes other none false h e =
       let same : UnknownCommand ≡ f = cc in subst (Caused body) same (none_commanded body other h)
-  unknown_causes other none (Some r) h e =
+  unknown_causes other none true h e =
       let same : UnknownSubCommand ≡ f = cc in
-      subst (Caused body) same
-      (row_commanded body r (found_findable _ r h) (found_sized _ r h) (first_passes (has_command (command_of body)) rows r h), none_named body other none)
+      subst (Caused body) same (known_commanded body h, none_named body other none)
 
   row_causes : (command_of body ≡ 0x07 → ⊥) → (o : Option Row) → row_for (command_of body) (next_of body) ≡ o → by_command o body ≡ Err f → Caused body f
-  row_causes other None h e = unknown_causes other h (first (has_command (command_of body)) rows) refl e
+  row_causes other None h e = unknown_causes other h (is_known (command_of body)) refl e
   row_causes other (Some r) h e = go (is_reading r (command_of body) (length (data_of r body))) (is_writing r (command_of body) (length (data_of r body))) e
     where
       go : (x y : Bool) → cond x (Ok (read r.setting)) (cond y (Ok (write r.setting (data_of r body) (data_place r))) (Err (WrongLength (length body)))) ≡ Err f → Caused body f
@@ -168,9 +179,9 @@ module _ (body : List ℕ) (f : Fault) (whole : request_of body ≡ Err f) where
       go false true e = absurd (grind arith)
       go false false e =
           let same : WrongLength (length body) ≡ f = cc in
-          let asked = and_parts (has_command (command_of body) r) (has_sub (next_of body) r.sub) (first_passes _ rows r h) in
+          let asked = and_parts (has_command (command_of body) r) (has_sub (next_of body) r.sub) (found _ rows r h).0 in
           subst (Caused body) same
-          (refl, row_named body r (found_findable _ r h) (found_sized _ r h) asked.0 asked.1, no_asks body f whole)
+          (refl, row_named body r (found_tabled _ r h) asked.0 asked.1, no_asks body f whole)
 
 causes : (body : List ℕ) (f : Fault) → request_of body ≡ Err f → Caused body f
 unfolding request_of

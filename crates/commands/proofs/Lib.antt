@@ -1,11 +1,11 @@
 pub mod Searching
+pub mod Bytes
 pub mod Parsing
 pub mod Tabled
 pub mod Asking
 pub mod Causes
 pub mod Telling
 pub mod Lawful
-pub mod Pushing
 pub mod Composing
 pub mod Quiet
 pub mod Replying

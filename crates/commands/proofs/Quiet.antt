@@ -1,10 +1,12 @@
 -- Bytes that have no meaning of their own on the wire. Assumes nothing.
 use Rattle.std.proofs.Common.{◌≡◌, ℕ, ◌/◌, ◌%◌, ◌≤◌, true, not, ◌||◌, eqb, ltb, List, [], ◌∷◌, ◌++◌, refl, arith}
+use Rattle.std.specs.Prelude.{All}
 use Rattle.std.proofs.lemmas.Bool.{ltb-true, ne_eqb, and_parts, and_from, or_from, not_from_false}
+use Rattle.std.proofs.lemmas.List.Elements.{All-nil, All-cons, All-head, All-tail, All-weaker, All-append}
 use Rattle.digits.specs.Bytes.{is_digit_byte}
 use Rattle.digits.specs.Fields.{AllDigits}
-use Rattle.framing.specs.Lists.{All}
 use Rattle.framing.specs.Frames.{NoEnd, clean}
+use Rattle.commands.proofs.Bytes.{no_end-nil, no_end-cons, all_digits-head, all_digits-tail}
 use Rattle.commands.proofs.Tabled.{Small}
 
 -- digit bytes are small
@@ -15,34 +17,30 @@ digit_small b h =
     omega (arith, ltb-true (b / 16) 10 halves.0, ltb-true (b % 16) 10 halves.1)
 
 digits_small : (bs : List ℕ) → AllDigits bs → All Small bs
-digits_small [] h = tt
-digits_small (b ∷ bs) h = (digit_small b h.0, digits_small bs h.1)
+digits_small [] h = All-nil Small
+digits_small (b ∷ bs) h = All-cons Small b bs (digit_small b (all_digits-head b bs h)) (digits_small bs (all_digits-tail b bs h))
 
 -- small bytes, and addresses, are quiet
 abbrev pub Quiet : ℕ → Type 0
 Quiet b = b ≤ 0xEF
 
-small_quiet : (bs : List ℕ) → All Small bs → All Quiet bs
-small_quiet [] h = tt
-small_quiet (b ∷ bs) h = (omega (arith, h.0), small_quiet bs h.1)
-
-quiet_append : (xs ys : List ℕ) → All Quiet xs → All Quiet ys → All Quiet (xs ++ ys)
-quiet_append [] ys h k = k
-quiet_append (x ∷ xs) ys h k = (h.0, quiet_append xs ys h.1 k)
-
 -- a name of small bytes and then a field
 pub named_field_quiet : (name field : List ℕ) → All Small name → AllDigits field → All Quiet (name ++ field)
-named_field_quiet name field h d = quiet_append name field (small_quiet name h) (small_quiet field (digits_small field d))
+named_field_quiet name field h d =
+    All-weaker Small Quiet (λ b small. omega arith) (name ++ field) (All-append Small name field h (digits_small field d))
 
 -- among quiet bytes there is no FD, FC or FE
 
 pub quiet_no_end : (bs : List ℕ) → All Quiet bs → NoEnd bs
-quiet_no_end [] h = tt
-quiet_no_end (b ∷ bs) h = (λ e. omega (arith, h.0), quiet_no_end bs h.1)
+quiet_no_end [] h = no_end-nil
+quiet_no_end (b ∷ bs) h =
+    no_end-cons b bs (λ e. omega (arith, All-head Quiet b bs h)) (quiet_no_end bs (All-tail Quiet b bs h))
 
 pub quiet_clean : (bs : List ℕ) → All Quiet bs → clean bs ≡ true
 quiet_clean [] h = refl
 quiet_clean (b ∷ bs) h =
-    let jammer = ne_eqb b 0xFC (λ e. omega (arith, h.0)) in
-    let mark = ne_eqb b 0xFE (λ e. omega (arith, h.0)) in
-    and_from (not (eqb b 0xFC || eqb b 0xFE)) (clean bs) (not_from_false _ (or_from (eqb b 0xFC) (eqb b 0xFE) jammer mark)) (quiet_clean bs h.1)
+    let low = All-head Quiet b bs h in
+    let jammer = ne_eqb b 0xFC (λ e. omega arith) in
+    let mark = ne_eqb b 0xFE (λ e. omega arith) in
+    and_from (not (eqb b 0xFC || eqb b 0xFE)) (clean bs) (not_from_false _ (or_from (eqb b 0xFC) (eqb b 0xFE) jammer mark))
+    (quiet_clean bs (All-tail Quiet b bs h))

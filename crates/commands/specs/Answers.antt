@@ -1,5 +1,6 @@
 -- The reply that says what a receiver answers. Assumes nothing.
-use Rattle.std.specs.Prelude.{◌≡◌, ℕ, ◌^◌, ◌≤◌, cond, List, [], ◌∷◌, ◌++◌, length, Some, None, Ok, Err, Option, Result, ◌≢◌, nat_lt, slice_index, slice_index_or}
+use Rattle.std.specs.Prelude.{◌≡◌, ℕ, ◌^◌, ◌≤◌, if◌then◌else◌, List, [], ◌∷◌, ◌++◌, length, Some, None, Ok, Err, Option, Result, ◌≢◌, nat_lt, slice_index, slice_index_or}
+use Rattle.arrayvec.specs.ArrayVec.{ArrayVec}
 use Rattle.digits.specs.Fields.{field_of}
 use Rattle.framing.specs.Frames.{NoEnd}
 use Rattle.commands.specs.declared.rows.Row.{Row}
@@ -7,13 +8,12 @@ use Rattle.commands.specs.declared.answers.Answer.{Answer}
 use Rattle.commands.specs.declared.answers.Answer.TheVariants.{Done, Failed, Number}
 use Rattle.commands.specs.declared.answers.Unanswerable.{Unanswerable}
 use Rattle.commands.specs.declared.answers.Unanswerable.TheVariants.{NoSuchSetting, DoesNotFit}
-use Rattle.commands.specs.declared.reply.Reply.{Reply}
 use Rattle.commands.specs.Rows.{row_of, read_bytes}
-use Rattle.commands.specs.Replies.{bytes_of}
 
 -- the bytes that tell a number: the command that reads its setting, the sub command, and the field
 abbrev pub row_bytes : Row → ℕ → Result (List ℕ) Unanswerable
-row_bytes r n = cond (nat_lt n (100 ^ r.bytes)) (Ok (read_bytes r ++ field_of r.order r.bytes n)) (Err DoesNotFit)
+row_bytes r n =
+    if nat_lt n (100 ^ r.bytes) then Ok (read_bytes r ++ field_of r.order r.bytes n) else Err DoesNotFit
 
 -- by the row of the setting, or for want of one
 abbrev pub number_bytes : Option Row → ℕ → Result (List ℕ) Unanswerable
@@ -26,23 +26,23 @@ answer_bytes Done = Ok (0xFB ∷ [])
 answer_bytes Failed = Ok (0xFA ∷ [])
 answer_bytes (Number s n) = number_bytes (row_of s) n
 
--- some bytes, and then others if there are any
-abbrev pub onto : List ℕ → Result (List ℕ) Unanswerable → Result (List ℕ) Unanswerable
-onto xs (Ok ys) = Ok (xs ++ ys)
-onto xs (Err e) = Err e
+-- the bytes that were told, or why there are none
+abbrev pub told_bytes : Result (ArrayVec ℕ) Unanswerable → Result (List ℕ) Unanswerable
+told_bytes (Ok told) = Ok told.items
+told_bytes (Err e) = Err e
 
 -- what a reply begins with: FE FE, the address that it goes to, the one that it comes from
 abbrev pub front : ℕ → ℕ → List ℕ
 front to from = 0xFE ∷ 0xFE ∷ to ∷ from ∷ []
 
--- FD ends them
-abbrev pub with_end : Result (List ℕ) Unanswerable → Result (List ℕ) Unanswerable
-with_end (Ok xs) = Ok (xs ++ (0xFD ∷ []))
-with_end (Err e) = Err e
+-- what is told follows it, and FD ends them
+abbrev pub framed : ℕ → ℕ → Result (List ℕ) Unanswerable → Result (List ℕ) Unanswerable
+framed to from (Ok told) = Ok (front to from ++ told ++ (0xFD ∷ []))
+framed to from (Err e) = Err e
 
 -- the bytes of a reply, or why it has none
 abbrev pub reply_of : ℕ → ℕ → Answer → Result (List ℕ) Unanswerable
-reply_of to from answer = with_end (onto (front to from) (answer_bytes answer))
+reply_of to from answer = framed to from (answer_bytes answer)
 
 -- no reply is longer than sixteen bytes
 abbrev pub ShortReplies : Type 0
@@ -66,13 +66,3 @@ pub record Told (to from : ℕ) (answer : Answer) (bytes : List ℕ) : Type 0 wh
 
 abbrev pub RepliesTell : Type 0
 RepliesTell = (to from : ℕ) (answer : Answer) (bytes : List ℕ) → reply_of to from answer ≡ Ok bytes → Told to from answer bytes
-
--- a composed reply by its bytes
-abbrev pub composed : Result Reply Unanswerable → Result (List ℕ) Unanswerable
-composed (Ok r) = Ok (bytes_of r)
-composed (Err e) = Err e
-
--- what was written in all, unless there was a refusal
-abbrev pub ended : Result (Unit {0}) Unanswerable → List ℕ → Result (List ℕ) Unanswerable
-ended (Ok done) xs = Ok xs
-ended (Err e) xs = Err e

@@ -1,5 +1,6 @@
 -- Requests told from their bytes: which bytes ask for what, and when none do. Assumes nothing.
-use Rattle.std.specs.Prelude.{◌≡◌, ℕ, ◌+◌, ◌≤◌, true, List, [], ◌∷◌, ◌++◌, length, Some, None, Ok, Err, Option, slice_index}
+use Rattle.std.specs.Prelude.{◌≡◌, ℕ, ◌+◌, ◌≤◌, true, List, [], ◌∷◌, ◌++◌, length, Ok, Err, Option, IsSomeAnd, slice_get, slice_index}
+use Rattle.std.specs.Option.{option_map_or}
 use Rattle.framing.specs.Frames.{command_of}
 use Rattle.commands.specs.declared.rows.Row.{Row}
 use Rattle.commands.specs.declared.faults.Fault.{Fault}
@@ -8,7 +9,7 @@ use Rattle.commands.specs.declared.requests.Shown.TheVariants.{VfoA, VfoB}
 use Rattle.commands.specs.declared.requests.VfoCommand.{VfoCommand}
 use Rattle.commands.specs.declared.requests.VfoCommand.TheVariants.{Select, Show, Copy, Exchange}
 use Rattle.commands.specs.Rows.{row_of, read_bytes, write_bytes, has_sub}
-use Rattle.commands.specs.Requests.{Asked, read, write, vfo, request_of, takes_length, first_byte, next_of}
+use Rattle.commands.specs.Requests.{Asked, read, write, vfo, request_of, takes_length, next_of}
 
 -- the byte after 07 of each VFO command, if it has one
 abbrev pub vfo_bytes : VfoCommand → List ℕ
@@ -20,8 +21,7 @@ vfo_bytes Exchange = 0xB0 ∷ []
 
 -- the bytes of a row, if there is one
 abbrev pub named : (Row → List ℕ) → Option Row → List ℕ
-named bytes None = []
-named bytes (Some r) = bytes r
+named bytes o = option_map_or bytes o []
 
 -- the bytes that name a request: its command and sub command
 abbrev pub naming : Asked → List ℕ
@@ -37,8 +37,7 @@ data_bytes (vfo v) = []
 
 -- a writing of the setting may have so many data bytes
 abbrev pub Takes : Option Row → ℕ → Type 0
-Takes None n = ⊥
-Takes (Some r) n = takes_length r n ≡ true
+Takes o n = IsSomeAnd o (λ r. takes_length r n ≡ true)
 
 -- a request that can be asked: of one of the fifteen settings, with data of the right length that begin behind the bytes that name it
 abbrev pub Askable : Asked → Type 0
@@ -63,14 +62,13 @@ HasCommand body q = command_of body ≡ slice_index (naming q) 0
 
 -- it has the command of a row, and behind it the sub command if the row has one
 abbrev pub Under : List ℕ → (Row → ℕ) → Option Row → Type 0
-Under body command None = ⊥
-Under body command (Some r) = (command_of body ≡ command r) × (has_sub (next_of body) r.sub ≡ true)
+Under body command o = IsSomeAnd o (λ r. (command_of body ≡ command r) × (has_sub (next_of body) r.sub ≡ true))
 
 -- it has the command of a request and its sub command
 abbrev pub HasName : List ℕ → Asked → Type 0
 HasName body (read s) = Under body (λ r. r.read) (row_of s)
 HasName body (write s bytes place) = Under body (λ r. r.write) (row_of s)
-HasName body (vfo v) = (command_of body ≡ 0x07) × (next_of body ≡ first_byte (vfo_bytes v))
+HasName body (vfo v) = (command_of body ≡ 0x07) × (next_of body ≡ slice_get (vfo_bytes v) 0)
 
 -- the cause of each fault: no request has the command; one has it, but none has the sub command too; one has both, but the body asks for none
 abbrev pub Caused : List ℕ → Fault → Type 0

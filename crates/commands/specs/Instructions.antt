@@ -1,10 +1,10 @@
 -- What a receiver is told: a request whose data have become a lawful number. Assumes nothing.
-use Rattle.std.specs.Prelude.{ℕ, ◌+◌, ◌*◌, cond, ◌&&◌, List, length, Some, None, Ok, Err, Option, Result, ◌==◌}
+use Rattle.std.specs.Prelude.{ℕ, ◌+◌, ◌*◌, if◌then◌else◌, ◌&&◌, List, length, Ok, Err, Result, ◌==◌}
+use Rattle.std.specs.Option.{option_map_or}
 use Rattle.digits.specs.declared.Order.{Order}
 use Rattle.digits.specs.declared.Order.TheVariants.{HighFirst}
 use Rattle.digits.specs.Fields.{number_or_stray}
 use Rattle.commands.specs.declared.settings.Setting.{Setting}
-use Rattle.commands.specs.declared.rows.Row.{Row}
 use Rattle.commands.specs.declared.faults.Fault.{Fault}
 use Rattle.commands.specs.declared.faults.Fault.TheVariants.{NotDigits, NotLawful}
 use Rattle.commands.specs.declared.instructions.Instruction.{Instruction}
@@ -14,12 +14,8 @@ use Rattle.commands.specs.Rows.{row_of}
 use Rattle.commands.specs.Requests.{Asked, read, write, vfo, request_of}
 
 -- the order of the bytes of a setting's number
-abbrev pub order_in : Option Row → Order
-order_in (Some r) = r.order
-order_in None = HighFirst
-
 abbrev pub order_of : Setting → Order
-order_of s = order_in (row_of s)
+order_of s = option_map_or (λ r. r.order) (row_of s) HighFirst
 
 -- the filter that a mode byte alone means
 abbrev pub default_filter : ℕ → ℕ
@@ -27,11 +23,11 @@ default_filter mode = 1
 
 -- the number that a field of some length names: a mode byte alone is the mode, and its filter is added
 abbrev pub completed : Setting → ℕ → ℕ → ℕ
-completed s length n = cond (s.number == 1 && length == 1) (100 * n + default_filter n) n
+completed s length n = if s.number == 1 && length == 1 then 100 * n + default_filter n else n
 
 -- it has to be lawful, or else the place of the first data byte is told
 abbrev pub if_lawful : Setting → ℕ → ℕ → Result ℕ Fault
-if_lawful s place n = cond (lawful s.number n) (Ok n) (Err (NotLawful place))
+if_lawful s place n = if lawful s.number n then Ok n else Err (NotLawful place)
 
 -- a stray byte is told first, by its place in the body
 abbrev pub if_digits : Setting → ℕ → ℕ → Result ℕ ℕ → Result ℕ Fault

@@ -5,6 +5,5 @@ pub mod Requests
 pub mod Asking
 pub mod Instructions
 pub mod Telling
-pub mod Replies
 pub mod Answers
 pub mod Saving

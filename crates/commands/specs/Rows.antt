@@ -1,5 +1,7 @@
 -- The command table, and the rows that are found in it. Assumes nothing.
-use Rattle.std.specs.Prelude.{◌≡◌, ℕ, ◌<◌, ◌≤◌, Bool, true, false, cond, ◌&&◌, ◌||◌, List, [], ◌∷◌, is_some, Some, None, Option, ◌==◌}
+use Rattle.std.specs.Prelude.{◌≡◌, ℕ, ◌<◌, ◌≤◌, Bool, true, false, ◌&&◌, ◌||◌, List, [], ◌∷◌, find, Some, None, Option, ◌==◌}
+use Rattle.std.specs.List.{list_any}
+use Rattle.std.specs.Option.{option_to_list}
 use Rattle.digits.specs.declared.Order.{Order}
 use Rattle.digits.specs.declared.Order.TheVariants.{LowFirst, HighFirst}
 use Rattle.commands.specs.declared.settings.Setting.{Setting}
@@ -33,29 +35,19 @@ rows =
     row 14 0x16 0x16 (Some 0x40) 1 HighFirst ∷  -- noise reduction
     []
 
--- the sub command, if the row has one
-abbrev pub sub_bytes : Option ℕ → List ℕ
-sub_bytes None = []
-sub_bytes (Some k) = k ∷ []
-
--- the bytes that name a reading, and a writing
+-- the bytes that name a reading, and a writing: the command, and the sub command if the row has one
 abbrev pub read_bytes : Row → List ℕ
-read_bytes r = r.read ∷ sub_bytes r.sub
+read_bytes r = r.read ∷ option_to_list r.sub
 
 abbrev pub write_bytes : Row → List ℕ
-write_bytes r = r.write ∷ sub_bytes r.sub
-
--- the first row that passes a test
-abbrev pub first : (Row → Bool) → List Row → Option Row
-first p [] = None
-first p (r ∷ rs) = cond (p r) (Some r) (first p rs)
+write_bytes r = r.write ∷ option_to_list r.sub
 
 -- the row of a setting
 abbrev pub is_of : Setting → Row → Bool
 is_of s r = r.setting.number == s.number
 
 abbrev pub row_of : Setting → Option Row
-row_of s = first (is_of s) rows
+row_of s = find (is_of s) rows
 
 -- each of the fifteen settings has its row, and no other setting has one
 abbrev pub FifteenRows : Type 0
@@ -69,7 +61,7 @@ has_command c r = r.read == c || r.write == c
 
 -- some row has the command
 abbrev pub is_known : ℕ → Bool
-is_known c = is_some (first (has_command c) rows)
+is_known c = list_any (has_command c) rows
 
 -- the byte after the command is the row's sub command, or the row has none
 abbrev pub has_sub : Option ℕ → Option ℕ → Bool
@@ -82,4 +74,4 @@ abbrev pub is_asked : ℕ → Option ℕ → Row → Bool
 is_asked c next r = has_command c r && has_sub next r.sub
 
 abbrev pub row_for : ℕ → Option ℕ → Option Row
-row_for c next = first (is_asked c next) rows
+row_for c next = find (is_asked c next) rows

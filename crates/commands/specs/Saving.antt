@@ -1,28 +1,27 @@
 -- A data reply that was saved, sent back under the command that writes its setting. Assumes nothing.
-use Rattle.std.specs.Prelude.{◌≡◌, ℕ, ◌+◌, ◌≤◌, true, List, [], ◌∷◌, ◌++◌, length, drop, Some, None, Ok, Option, slice_index}
+use Rattle.std.specs.Prelude.{◌≡◌, ℕ, ◌+◌, ◌≤◌, true, List, [], ◌∷◌, ◌++◌, length, drop, Ok, Option, slice_get, slice_index}
+use Rattle.std.specs.Option.{option_map_or, option_to_list}
 use Rattle.framing.specs.Frames.{NoEnd, sound}
 use Rattle.commands.specs.declared.settings.Setting.{Setting}
 use Rattle.commands.specs.declared.rows.Row.{Row}
 use Rattle.commands.specs.declared.instructions.Instruction.TheVariants.{Write}
 use Rattle.commands.specs.declared.answers.Answer.TheVariants.{Number}
 use Rattle.commands.specs.Settings.{lawful}
-use Rattle.commands.specs.Rows.{row_for, sub_bytes, write_bytes}
-use Rattle.commands.specs.Requests.{first_byte}
+use Rattle.commands.specs.Rows.{row_for, write_bytes}
 use Rattle.commands.specs.Instructions.{instruction_of}
 use Rattle.commands.specs.Answers.{reply_of}
 
 -- the row of a data reply, by the command and sub command that follow its addresses
 abbrev pub saved_row : List ℕ → Option Row
-saved_row reply = row_for (slice_index reply 4) (first_byte (drop 5 reply))
+saved_row reply = row_for (slice_index reply 4) (slice_get reply 5)
 
 -- its field, which follows them: the reply is taken without its FD
 abbrev pub saved_field : Row → List ℕ → List ℕ
-saved_field r reply = drop (5 + length (sub_bytes r.sub)) reply
+saved_field r reply = drop (5 + length (option_to_list r.sub)) reply
 
 -- they become the command that writes the setting, the sub command, and the same field
 abbrev pub rewritten : Option Row → List ℕ → List ℕ
-rewritten None reply = []
-rewritten (Some r) reply = write_bytes r ++ saved_field r reply
+rewritten o reply = option_map_or (λ r. write_bytes r ++ saved_field r reply) o []
 
 -- the body of the frame that sends a data reply back to an address, from a sender
 abbrev pub write_back : ℕ → ℕ → List ℕ → List ℕ

@@ -1,5 +1,6 @@
 -- The fifteen settings, by their numbers, and the numbers that are lawful for each. Assumes nothing.
 use Rattle.std.specs.Prelude.{◌≡◌, ℕ, ◌/◌, ◌%◌, ◌<◌, Bool, false, ◌&&◌, ◌||◌, List, [], ◌∷◌, ◌==◌, nat_le, slice_index_or}
+use Rattle.std.specs.List.{list_any}
 
 -- a number from one number up to another
 abbrev pub between : ℕ → ℕ → ℕ → Bool
@@ -11,8 +12,7 @@ upto high n = nat_le n high
 
 -- one of some numbers
 abbrev pub among : List ℕ → ℕ → Bool
-among [] n = false
-among (m ∷ ms) n = n == m || among ms n
+among ms n = list_any (λ m. n == m) ms
 
 -- the modes that there are
 abbrev pub is_mode : ℕ → Bool

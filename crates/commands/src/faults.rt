@@ -1,25 +1,26 @@
-// Why a frame's body is no request that can be served.
+//! Why a frame's body is no request that can be served.
 ghost use Rattle.std.specs.Prelude.{◌≡◌};
 ghost use Rattle.commands.specs.Faults.{report_of};
 
-// The checks are made in this order, and the first that fails is the fault. A place counts the bytes of
-// the body from 0.
+/// The checks are made in this order, and the first that fails is the fault. A place counts the bytes of
+/// the body from 0.
 #[derive(Clone, Copy, PartialEq, Eq, Debug)]
 pub enum Fault {
-    // no request has the command
+    /// no request has the command
     UnknownCommand,
-    // the command wants a sub command, and the byte behind it is none of them, or missing
+    /// the command wants a sub command, and the byte behind it is none of them, or missing
     UnknownSubCommand,
-    // the body is too long or too short for its command
+    /// the body is too long or too short for its command
     WrongLength { length: usize },
-    // a data byte is no digit byte, by the place of the first one
+    /// a data byte is no digit byte, by the place of the first one
     NotDigits { place: usize },
-    // the setting cannot have the number, by the place of the first data byte
+    /// the setting cannot have the number, by the place of the first data byte
     NotLawful { place: usize },
 }
 
-// A fault as it is reported: its cause and place, the layer of a receiver that refused, or 0, and the
-// slot that was asked.
+/// A fault as it is reported: its cause and place, the layer of a receiver that refused, or 0, and the
+/// slot that was asked. The cause is a number, since reports list causes of receivers and layers too, by their
+/// numbers; the type of a request's cause is `Fault`.
 #[derive(Clone, Copy, PartialEq, Eq, Debug)]
 pub struct FaultReport {
     pub cause: u8,
@@ -29,7 +30,7 @@ pub struct FaultReport {
 }
 
 impl Fault {
-    // The report of the fault at a slot.
+    /// The report of the fault at a slot.
     pub fn report(self, slot: u8) -> FaultReport
         ensures { result ≡ report_of self slot }
     {

@@ -1,7 +1,7 @@
-// What a frame asks of a receiver, and the bytes that answer it.
-//
-// The body of a sound frame becomes a request, or a fault under its own cause; an answer becomes the
-// bytes of a reply. Which command means which setting stands in one table of fifteen rows.
+//! What a frame asks of a receiver, and the bytes that answer it.
+//!
+//! The body of a sound frame becomes a request, or a fault under its own cause; an answer becomes the
+//! bytes of a reply. Which command means which setting stands in one table of fifteen rows.
 #![tactic(auto)]
 
 mod answers;

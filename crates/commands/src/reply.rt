@@ -1,15 +1,47 @@
-// The bytes of a reply.
-ghost use Rattle.std.specs.Prelude.{◌≡◌, ◌≤◌, length};
+//! The bytes of a reply.
+ghost use Rattle.std.specs.Prelude.{◌≡◌, ◌+◌, ◌≤◌, ◌∷◌, [], ◌++◌, length};
+ghost use Rattle.commands.specs.Answers.{front};
 
-mod writing;
+use arrayvec::ArrayVec;
+use framing::{END, MARK};
+use std::marker::Model;
 
-// There is room for a reply of sixteen bytes; none is longer.
+/// There is room for a reply of sixteen bytes; none is longer.
 pub const LONGEST_REPLY: usize = 16;
 
 #[derive(Drop)]
 pub struct Reply {
-    memory: [u8; LONGEST_REPLY],
-    len: usize,
-    ghost whole: { length memory ≡ 16 },
-    ghost within: { len ≤ 16 },
+    bytes: ArrayVec<u8, LONGEST_REPLY>,
+}
+
+impl Model for Reply {
+    ghost use Rattle.std.specs.Prelude.{ℕ, List};
+
+    ghost Value = { List ℕ };
+
+    ghost view = { λ r. r.bytes.items };
+}
+
+impl Reply {
+    /// FE FE, the address that the reply goes to, the one that it comes from, what it tells, and FD.
+    pub(crate) fn new(to: u8, from: u8, told: &[u8]) -> Reply
+        requires { 5 + length told.now ≤ LONGEST_REPLY }
+        ensures { result ≡ front to from ++ told.now ++ 0xFD ∷ [] }
+    {
+        let mut bytes = ArrayVec::new();
+        bytes
+            .try_extend_from_slice(&[MARK, MARK, to, from])
+            .unwrap();
+        bytes.try_extend_from_slice(told).unwrap();
+        bytes.push(END);
+        Reply { bytes }
+    }
+
+    /// The bytes, in the order in which they go out.
+    pub fn as_slice(&self) -> &[u8]
+        ensures value { result.now ≡ self.now }
+        ensures fits { length result.now ≤ LONGEST_REPLY }
+    {
+        self.bytes.as_slice()
+    }
 }

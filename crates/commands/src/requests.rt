@@ -1,14 +1,14 @@
-// What the body of a frame asks.
+//! What the body of a frame asks.
 ghost use Rattle.std.specs.Prelude.{◌≡◌, ◌≤◌, length};
 ghost use Rattle.framing.specs.Frames.{command_of};
 ghost use Rattle.commands.specs.Asking.{FaultsByTheirCauses, RequestsByTheirBytes};
-ghost use Rattle.commands.specs.Requests.{by_command, by_row, by_vfo, data_place, is_reading, is_writing, next_of, request_of, seen, vfo_under};
+ghost use Rattle.commands.specs.Requests.{by_command, by_row, by_vfo, data_place, next_of, request_of, seen, unknown, vfo_under};
 ghost use Rattle.commands.specs.Rows.{row_for};
 
 use super::rows::{is_known, row_for};
 use super::{Fault, Row, Setting};
 
-// Which of the two VFOs is shown.
+/// Which of the two VFOs is shown.
 #[derive(Clone, Copy, PartialEq, Eq, Debug)]
 pub enum Shown {
     VfoA,
@@ -17,16 +17,16 @@ pub enum Shown {
 
 #[derive(Clone, Copy, PartialEq, Eq, Debug)]
 pub enum VfoCommand {
-    // go on with the VFOs, which changes nothing
+    /// go on with the VFOs, which changes nothing
     Select,
     Show(Shown),
-    // the hidden VFO becomes as the shown one
+    /// the hidden VFO becomes as the shown one
     Copy,
     Exchange,
 }
 
-// A reading, a writing or a VFO command. A writing has its data bytes as a part of the body, and the
-// place where they begin there.
+/// A reading, a writing or a VFO command. A writing has its data bytes as a part of the body, and the
+/// place where they begin there: it borrows, which is a form that is wanted as it is.
 #[derive(Clone, Copy)]
 pub enum Request<'a> {
     Read(Setting),
@@ -38,23 +38,17 @@ pub enum Request<'a> {
     Vfo(VfoCommand),
 }
 
-// The command that VFO commands stand under.
+/// The command that VFO commands stand under.
 const VFO: u8 = 0x07;
 
-// What a body asks, or why that is not known. The data of a writing are as long as they should be, and
-// not yet looked at. A body is read as a request just when it has the bytes of that request, and each
-// fault comes under its own cause alone.
+/// What a body asks, or why that is not known. The data of a writing are as long as they should be, and
+/// not yet looked at. A body is read as a request just when it has the bytes of that request, and each
+/// fault comes under its own cause alone.
+#[tactic(auto, using(crate::proofs::Causes::faults_by_their_causes), unfolding(crate::specs::Requests::request_of))]
 pub fn parse(body: &[u8]) -> Result<Request<'_>, Fault>
     ensures value { seen result ≡ request_of body.now }
     ensures requests { RequestsByTheirBytes }
     ensures faults { FaultsByTheirCauses }
-{
-    parse_body(body)
-}
-
-// The same, for the value alone.
-fn parse_body(body: &[u8]) -> Result<Request<'_>, Fault>
-    ensures { seen result ≡ request_of body.now }
 {
     match body {
         [_, _, VFO, ..] => parse_vfo(body),
@@ -63,31 +57,28 @@ fn parse_body(body: &[u8]) -> Result<Request<'_>, Fault>
     }
 }
 
-// The byte after the command, if there is one.
+/// The byte after the command, if there is one.
 fn next_of(body: &[u8]) -> Option<u8>
     ensures { result ≡ next_of body.now }
 {
-    match body {
-        [_, _, _, next, ..] => Some(*next),
-        _ => None,
-    }
+    body.get(3).copied()
 }
 
-// What a body asks under 07. Nothing follows the byte that names the VFO command.
+/// What a body asks under 07. Nothing follows the byte that names the VFO command.
 fn parse_vfo(body: &[u8]) -> Result<Request<'_>, Fault>
     ensures { seen result ≡ by_vfo (next_of body.now) (length body.now) }
 {
     let Some(code) = next_of(body) else {
         return Ok(Request::Vfo(VfoCommand::Select));
     };
-    match vfo_under(code) {
-        None => Err(Fault::UnknownSubCommand),
-        Some(command) if body.len() == 4 => Ok(Request::Vfo(command)),
-        Some(_) => Err(Fault::WrongLength { length: body.len() }),
+    let command = vfo_under(code).ok_or(Fault::UnknownSubCommand)?;
+    if body.len() != 4 {
+        return Err(Fault::WrongLength { length: body.len() });
     }
+    Ok(Request::Vfo(command))
 }
 
-// The VFO command of a byte after 07.
+/// The VFO command of a byte after 07. No `TryFrom`: 07 alone is a VFO command too, which no byte names.
 fn vfo_under(code: u8) -> Option<VfoCommand>
     ensures { result ≡ vfo_under code }
 {
@@ -100,60 +91,45 @@ fn vfo_under(code: u8) -> Option<VfoCommand>
     }
 }
 
-// What a body asks by the row of its command.
+/// What a body asks by the row of its command.
 fn parse_row(body: &[u8]) -> Result<Request<'_>, Fault>
     requires { 3 ≤ length body.now }
     ensures { seen result ≡ by_command (row_for (command_of body.now) (next_of body.now)) body.now }
 {
     let command = body[2];
-    match row_for(command, next_of(body)) {
-        Some(row) => parse_data(row, body),
-        None if is_known(command) => Err(Fault::UnknownSubCommand),
-        None => Err(Fault::UnknownCommand),
+    let row = row_for(command, next_of(body)).ok_or_else(|| unknown(command))?;
+    parse_data(row, body)
+}
+
+/// Why no row is for a command: rows have it with other sub commands, or none has it.
+fn unknown(command: u8) -> Fault
+    ensures { result ≡ unknown command }
+{
+    if is_known(command) {
+        Fault::UnknownSubCommand
+    } else {
+        Fault::UnknownCommand
     }
 }
 
-// What a body asks by a row: a reading has no data, and a writing has some.
+/// What a body asks by a row: a reading has no data, and a writing has some.
 fn parse_data(row: Row, body: &[u8]) -> Result<Request<'_>, Fault>
     requires { data_place row ≤ length body.now }
     ensures { seen result ≡ by_row row body.now }
 {
     let command = body[2];
-    let place = data_place(&row);
+    let setting = row.setting;
+    let place = row.data_place();
     let data = &body[place..];
-    if is_reading(&row, command, data.len()) {
-        Ok(Request::Read(row.setting))
-    } else if is_writing(&row, command, data.len()) {
+    if row.is_reading(command, data.len()) {
+        Ok(Request::Read(setting))
+    } else if row.is_writing(command, data.len()) {
         Ok(Request::Write {
-            setting: row.setting,
+            setting,
             data,
             place,
         })
     } else {
         Err(Fault::WrongLength { length: body.len() })
     }
-}
-
-// Where the data begin: after the address, the sender, the command and the sub command.
-fn data_place(row: &Row) -> usize
-    ensures { result ≡ data_place row.now }
-{
-    match row.sub {
-        Some(_) => 4,
-        None => 3,
-    }
-}
-
-// A command with so many data bytes reads the row's setting.
-fn is_reading(row: &Row, command: u8, length: usize) -> bool
-    ensures { result ≡ is_reading row.now command length }
-{
-    row.read == command && length == 0
-}
-
-// It writes the setting: it has the bytes of a number, or the mode byte alone.
-fn is_writing(row: &Row, command: u8, length: usize) -> bool
-    ensures { result ≡ is_writing row.now command length }
-{
-    row.write == command && (length == row.bytes || (row.setting == Setting::MODE && length == 1))
 }

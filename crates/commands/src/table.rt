@@ -1,4 +1,5 @@
-// The command table, one row for each setting, laid out as it is read.
+//! The command table, one row for each setting, laid out as it is read. These constant rows are a form that
+//! is wanted as it is: the decoder and the composer search them.
 use super::{Row, Setting};
 use digits::Order::{HighFirst, LowFirst};
 

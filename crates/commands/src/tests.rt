@@ -13,20 +13,17 @@ fn check_reads(rt: &impl Abort, body: &[u8], setting: Setting) {
 }
 
 // A body has a fault with a cause and a place.
-fn check_fault(rt: &impl Abort, body: &[u8], cause: u8, place: usize) -> Result<(), Fail> {
+fn check_fault(rt: &impl Abort, body: &[u8], cause: u8, place: usize) {
     let expected = FaultReport {
         cause,
         place,
         layer: 0,
         slot: 2,
     };
-    match decode(body) {
-        Ok(_) => Err(Fail::new("no fault")),
-        Err(fault) => {
-            assert_eq!(rt; fault.report(2), expected);
-            Ok(())
-        },
-    }
+    assert_eq!(rt;
+        decode(body).map_err(|fault| fault.report(2)),
+        Err(expected)
+    );
 }
 
 #[test]
@@ -65,44 +62,44 @@ fn data_make_a_writing(rt: HostRuntime) {
 }
 
 #[test]
-fn a_mode_byte_alone_means_filter_1(rt: HostRuntime) -> Result<(), Fail> {
+fn a_mode_byte_alone_means_filter_1(rt: HostRuntime) {
     check_writes(&rt, &[0x96, 0xE0, 0x06, 0x02], Setting::MODE, 201);
     check_writes(&rt, &[0x96, 0xE0, 0x06, 0x15, 0x03], Setting::MODE, 1503);
-    check_fault(&rt, &[0x96, 0xE0, 0x06, 0x09], 24, 3)?;
-    check_fault(&rt, &[0x96, 0xE0, 0x06, 0x02, 0x04], 24, 3)?;
-    check_fault(&rt, &[0x96, 0xE0, 0x06], 22, 3)
+    check_fault(&rt, &[0x96, 0xE0, 0x06, 0x09], 24, 3);
+    check_fault(&rt, &[0x96, 0xE0, 0x06, 0x02, 0x04], 24, 3);
+    check_fault(&rt, &[0x96, 0xE0, 0x06], 22, 3);
 }
 
 #[test]
-fn unknown_commands(rt: HostRuntime) -> Result<(), Fail> {
-    check_fault(&rt, &[0x96, 0xE0, 0x1C, 0x00], 21, 2)?;
-    check_fault(&rt, &[0x96, 0xE0, 0x14], 21, 3)?;
-    check_fault(&rt, &[0x96, 0xE0, 0x14, 0x04], 21, 3)?;
-    check_fault(&rt, &[0x96, 0xE0, 0x07, 0xC0], 21, 3)?;
-    check_fault(&rt, &[0x96, 0xE0], 21, 2)
+fn unknown_commands(rt: HostRuntime) {
+    check_fault(&rt, &[0x96, 0xE0, 0x1C, 0x00], 21, 2);
+    check_fault(&rt, &[0x96, 0xE0, 0x14], 21, 3);
+    check_fault(&rt, &[0x96, 0xE0, 0x14, 0x04], 21, 3);
+    check_fault(&rt, &[0x96, 0xE0, 0x07, 0xC0], 21, 3);
+    check_fault(&rt, &[0x96, 0xE0], 21, 2);
 }
 
 #[test]
-fn wrong_lengths(rt: HostRuntime) -> Result<(), Fail> {
-    check_fault(&rt, &[0x96, 0xE0, 0x03, 0x00], 22, 4)?;
-    check_fault(&rt, &[0x96, 0xE0, 0x05], 22, 3)?;
-    check_fault(&rt, &[0x96, 0xE0, 0x05, 0x00, 0x00, 0x00, 0x00], 22, 7)?;
-    check_fault(&rt, &[0x96, 0xE0, 0x16, 0x12, 0x01, 0x01], 22, 6)?;
-    check_fault(&rt, &[0x96, 0xE0, 0x07, 0x00, 0x00], 22, 5)
+fn wrong_lengths(rt: HostRuntime) {
+    check_fault(&rt, &[0x96, 0xE0, 0x03, 0x00], 22, 4);
+    check_fault(&rt, &[0x96, 0xE0, 0x05], 22, 3);
+    check_fault(&rt, &[0x96, 0xE0, 0x05, 0x00, 0x00, 0x00, 0x00], 22, 7);
+    check_fault(&rt, &[0x96, 0xE0, 0x16, 0x12, 0x01, 0x01], 22, 6);
+    check_fault(&rt, &[0x96, 0xE0, 0x07, 0x00, 0x00], 22, 5);
 }
 
 #[test]
-fn numbers_that_are_no_numbers_or_not_lawful(rt: HostRuntime) -> Result<(), Fail> {
-    check_fault(&rt, &[0x96, 0xE0, 0x14, 0x01, 0x02, 0x56], 24, 4)?;
-    check_fault(&rt, &[0x96, 0xE0, 0x14, 0x01, 0x0A, 0x5F], 23, 4)?;
-    check_fault(&rt, &[0x96, 0xE0, 0x14, 0x01, 0x02, 0x5F], 23, 5)?;
+fn numbers_that_are_no_numbers_or_not_lawful(rt: HostRuntime) {
+    check_fault(&rt, &[0x96, 0xE0, 0x14, 0x01, 0x02, 0x56], 24, 4);
+    check_fault(&rt, &[0x96, 0xE0, 0x14, 0x01, 0x0A, 0x5F], 23, 4);
+    check_fault(&rt, &[0x96, 0xE0, 0x14, 0x01, 0x02, 0x5F], 23, 5);
     check_fault(
         &rt,
         &[0x96, 0xE0, 0x05, 0x00, 0x05, 0xA3, 0x1F, 0x00],
         23,
         5,
-    )?;
-    check_fault(&rt, &[0x96, 0xE0, 0x0F, 0x13], 24, 3)
+    );
+    check_fault(&rt, &[0x96, 0xE0, 0x0F, 0x13], 24, 3);
 }
 
 #[test]
@@ -124,20 +121,18 @@ fn vfo_commands(rt: HostRuntime) {
 // A writing has the data part of the body, and its place.
 #[test]
 fn a_writing_borrows_its_data(rt: HostRuntime) -> Result<(), Fail> {
-    match parse(&[0x96, 0xE0, 0x16, 0x40, 0xFF])? {
-        Request::Write {
-            setting,
-            data,
-            place,
-        } => {
-            assert_eq!(rt; setting, Setting::NOISE_REDUCTION);
-            assert_eq!(rt; data, &[0xFF][..]);
-            assert_eq!(rt; place, 4);
-            Ok(())
-        }
-        Request::Read(_) => Err(Fail::new("a reading")),
-        Request::Vfo(_) => Err(Fail::new("a VFO command")),
-    }
+    let Request::Write {
+        setting,
+        data,
+        place,
+    } = parse(&[0x96, 0xE0, 0x16, 0x40, 0xFF])?
+    else {
+        return Err(Fail::new("no writing"));
+    };
+    assert_eq!(rt; setting, Setting::NOISE_REDUCTION);
+    assert_eq!(rt; data, &[0xFF][..]);
+    assert_eq!(rt; place, 4);
+    Ok(())
 }
 
 fn check_reply(rt: &impl Abort, answer: Answer, bytes: &[u8]) -> Result<(), Fail> {
@@ -174,10 +169,7 @@ fn answers_have_replies(rt: HostRuntime) -> Result<(), Fail> {
 
 // Why an answer with a number has no reply, if it has none.
 fn unanswerable(setting: Setting, number: u64) -> Option<Unanswerable> {
-    match compose(0xE0, 0x96, Answer::Number { setting, number }) {
-        Ok(_) => None,
-        Err(why) => Some(why),
-    }
+    compose(0xE0, 0x96, Answer::Number { setting, number }).err()
 }
 
 #[test]

@@ -1,6 +1,6 @@
 -- Digit bytes and their numbers. Assumes nothing.
-use Rattle.std.proofs.Common.{◌≡◌, ℕ, ◌+◌, ◌*◌, ◌/◌, ◌%◌, ◌<◌, true, false, ltb, ◌∙◌, inl, inr, arith}
-use Rattle.std.proofs.lemmas.Bool.{lt-ltb, ltb-true, and_from, and_parts, cases_Bool, cond-true, cond-false}
+use Rattle.std.proofs.Common.{◌≡◌, ℕ, ◌+◌, ◌*◌, ◌/◌, ◌%◌, ◌<◌, true, ltb, arith}
+use Rattle.std.proofs.lemmas.Bool.{lt-ltb, ltb-true, and_from, and_parts, cond-true}
 use Rattle.digits.specs.Bytes.{is_digit_byte, number_of_byte, digit_byte}
 
 -- a byte's two digits
@@ -20,15 +20,6 @@ digits_of b h =
 
 pub number_small : (b : ℕ) → is_digit_byte b ≡ true → number_of_byte b < 100
 number_small b h = let d = digits_of b h in omega arith
-
--- 255 marks the bytes that are no digit bytes
-pub stray_number : (b n : ℕ) → n ≡ number_of_byte b → n ≡ 255 → is_digit_byte b ≡ false
-stray_number b n e m =
-    elim (cases_Bool (is_digit_byte b)) [ inl h ↦ absurd (omega (arith, number_small b h)) | inr h ↦ h ]
-
-pub fair_number : (b n : ℕ) → n ≡ number_of_byte b → (n ≡ 255 → ⊥) → is_digit_byte b ≡ true
-fair_number b n e m =
-    elim (cases_Bool (is_digit_byte b)) [ inl h ↦ h | inr h ↦ absurd (m (e ∙ cond-false (is_digit_byte b) _ _ h)) ]
 
 module _ (n : ℕ) (small : n < 100) where
   upper_is : digit_byte n / 16 ≡ n / 10

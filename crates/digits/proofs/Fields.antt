@@ -1,12 +1,11 @@
 -- A number's field: it is one, it reads back, and it is the only one. Assumes nothing.
-use Rattle.std.proofs.Common.{◌≡◌, ℕ, zero, suc, ◌/◌, ◌%◌, ◌^◌, ◌<◌, ◌≤◌, Bool, true, false, cond, not, ◌&&◌, ltb, List, [], ◌∷◌, reverse, length, is_ok, Ok, Err, sym, refl, ap, ◌∙◌, pow-suc, arith}
-use Rattle.std.proofs.lemmas.Bool.{false≢true, le-ltb, ltb-true, ltb-false}
+use Rattle.std.proofs.Common.{◌≡◌, ℕ, zero, suc, ◌/◌, ◌%◌, ◌^◌, ◌<◌, ◌≤◌, false, ltb, List, [], ◌∷◌, reverse, length, Ok, sym, refl, ap, ◌∙◌, pow-suc, arith}
+use Rattle.std.proofs.lemmas.Bool.{le-ltb}
 use Rattle.std.proofs.lemmas.List.{reverse-reverse, length-reverse}
 use Rattle.digits.specs.declared.Order.{Order}
 use Rattle.digits.specs.declared.Order.TheVariants.{LowFirst, HighFirst}
-use Rattle.digits.specs.declared.Unwritable.TheVariants as unwritable
 use Rattle.digits.specs.Bytes.{number_of_byte, digit_byte}
-use Rattle.digits.specs.Fields.{low_number, low_field, field_of, field_reading, field_writing, AllDigits, IsField, ExactlyOneField}
+use Rattle.digits.specs.Fields.{low_number, low_field, field_of, field_reading, AllDigits, IsField, ExactlyOneField}
 use Rattle.digits.proofs.Bytes.{number_small, digit_byte_is_one, number_of_digit_byte, digit_byte_of_number}
 use Rattle.digits.proofs.Strays.{reverse_digits, none_stray}
 
@@ -67,17 +66,3 @@ field_reads o w n bs l f =
 -- what is written reads back
 pub field_back : (o : Order) (w n : ℕ) (bs : List ℕ) → w ≤ 5 → n < 100 ^ w → bs ≡ field_of o w n → field_reading o bs ≡ Ok n
 field_back o w n bs l h e = ap (field_reading o) e ∙ field_reads o w n (field_of o w n) l (field_is_one o w n h)
-
--- what can be written fits
-pub writing_fits : (n w : ℕ) → is_ok (field_writing n w) ≡ true → (w ≤ 5) × (n < 100 ^ w)
-writing_fits n w h = go (ltb 5 w) (ltb n (100 ^ w)) refl refl (sym (fine (ltb 5 w) (ltb n (100 ^ w))) ∙ h)
-  where
-    fine : (long fits : Bool) → is_ok {T = Unit {0}} (cond long (Err unwritable.TooLong) (cond fits (Ok tt) (Err unwritable.DoesNotFit))) ≡ (not long && fits)
-    fine true fits = refl
-    fine false true = refl
-    fine false false = refl
-
-    go : (long fits : Bool) → ltb 5 w ≡ long → ltb n (100 ^ w) ≡ fits → (not long && fits) ≡ true → (w ≤ 5) × (n < 100 ^ w)
-    go false true l f h = (ltb-false 5 w l, ltb-true n (100 ^ w) f)
-    go false false l f h = absurd (false≢true h)
-    go true fits l f h = absurd (false≢true h)

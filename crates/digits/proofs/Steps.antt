@@ -1,45 +1,17 @@
 -- Reading a field byte by byte, from either end. Assumes nothing.
 use Rattle.std.proofs.Common.{◌≡◌, ℕ, ◌+◌, ◌-◌, ◌*◌, ◌^◌, ◌<◌, ◌≤◌, Bool, true, false, cond, List, [], ◌∷◌, ◌++◌, reverse, length, get_or, take, drop, Some, None, Ok, Err, Option, Result, sym, refl, ap, subst, lt_of_lt_of_le, pow-suc, arith, lit<}
-use native.Mathlib.Nat.{pow-le-pow_right}
-use Rattle.std.proofs.lemmas.List.{take_rest, take_more, take_all, reverse-append, length-reverse}
+use Rattle.std.proofs.Math.Nat.{pow-le-pow_right}
+use Rattle.std.proofs.lemmas.List.{length-take, length-drop, take_more, take_all, reverse-append, length-reverse}
 use Rattle.digits.specs.declared.Order.{Order}
 use Rattle.digits.specs.declared.Order.TheVariants.{LowFirst, HighFirst}
 use Rattle.digits.specs.Bytes.{is_digit_byte, number_of_byte}
 use Rattle.digits.specs.Fields.{low_number, number_of, first_stray, unless_stray, number_or_stray, AllDigits}
 use Rattle.digits.proofs.Bytes.{number_small}
-use Rattle.digits.proofs.Strays.{reverse_digits, from_rest, from_front, all_digits, Within, stray_within, stray_push}
-
-pub empty : (o : Order) (bs : List ℕ) → length bs < 1 → Ok 0 ≡ number_or_stray o bs
-empty LowFirst [] h = refl
-empty HighFirst [] h = refl
-empty o (b ∷ bs) h = absurd (omega arith)
-
--- what a field comes to from what its rest does, with a first byte of the number n
-abbrev pub after_first : Bool → ℕ → Result ℕ ℕ → Result ℕ ℕ
-after_first true n (Ok higher) = Ok (n + 100 * higher)
-after_first true n (Err place) = Err (place + 1)
-after_first false n r = Err 0
-
-after_first_is : (t : Bool) (n m : ℕ) (o : Option ℕ) → after_first t n (unless_stray m o) ≡ unless_stray (n + 100 * m) (from_rest t o)
-after_first_is true n m None = refl
-after_first_is true n m (Some p) = refl
-after_first_is false n m o = refl
+use Rattle.digits.proofs.Strays.{reverse_digits, from_front, all_digits, Within, stray_within, stray_push}
 
 -- what the pattern `[first, rest @ ..]` binds
-abbrev pub first_of : List ℕ → ℕ
-first_of bs = get_or bs 0 0
-
 abbrev pub rest_of : List ℕ → List ℕ
 rest_of bs = take (length bs - 1) (drop 1 bs)
-
-pub low_step : (bs : List ℕ) (t : Bool) (n : ℕ) (r : Result ℕ ℕ) → 1 ≤ length bs →
-    is_digit_byte (first_of bs) ≡ t → n ≡ number_of_byte (first_of bs) → r ≡ number_or_stray LowFirst (rest_of bs) →
-    after_first t n r ≡ number_or_stray LowFirst bs
-low_step [] t n r h d m e = absurd (omega arith)
-low_step (b ∷ bs) t n r h d m e =
-    let rest = ap (number_or_stray LowFirst) (take_rest (b ∷ bs) 1) in
-    let step = after_first_is (is_digit_byte b) (number_of_byte b) (low_number bs) (first_stray bs) in
-    cc
 
 -- what a field comes to from what its front does, with a last byte of the number n at place k
 abbrev pub after_front : Bool → ℕ → ℕ → Result ℕ ℕ → Result ℕ ℕ
@@ -66,10 +38,9 @@ front_of bs = take (length bs - 1) bs
 abbrev pub last_of : List ℕ → ℕ
 last_of bs = get_or bs (length bs - 1) 0
 
-pub high_step : (bs : List ℕ) (t : Bool) (n : ℕ) (r : Result ℕ ℕ) → 1 ≤ length bs →
-    is_digit_byte (last_of bs) ≡ t → n ≡ number_of_byte (last_of bs) → r ≡ number_or_stray HighFirst (front_of bs) →
-    after_front t n (length (front_of bs)) r ≡ number_or_stray HighFirst bs
-high_step bs t n r h d m e =
+pub high_step : (bs : List ℕ) (r : Result ℕ ℕ) → 1 ≤ length bs → r ≡ number_or_stray HighFirst (front_of bs) →
+    after_front (is_digit_byte (last_of bs)) (number_of_byte (last_of bs)) (length (front_of bs)) r ≡ number_or_stray HighFirst bs
+high_step bs r h e =
     let k = length bs - 1 in
     let whole = take_all (k + 1) bs (omega arith) in
     let parts = take_more bs k 0 (omega arith) in
@@ -102,3 +73,10 @@ reading_below o bs k r l e =
     subst (Below k) (sym e)
     (below_weaker (length bs) k (number_or_stray o bs) l
     (below_from (length bs) (number_of o bs) (first_stray bs) (λ n. number_below o bs (all_digits bs n)) (stray_within bs)))
+
+-- the same of all bytes but one of a field that is not too long
+pub rest_below : (bs : List ℕ) (r : Result ℕ ℕ) → length bs ≤ 5 → r ≡ number_or_stray LowFirst (rest_of bs) → Below 4 r
+rest_below bs r l e = reading_below LowFirst (rest_of bs) 4 r (simp (length-take, length-drop) (omega arith)) e
+
+pub front_below : (bs : List ℕ) (r : Result ℕ ℕ) → length bs ≤ 5 → r ≡ number_or_stray HighFirst (front_of bs) → Below 4 r
+front_below bs r l e = reading_below HighFirst (front_of bs) 4 r (simp length-take (omega arith)) e

@@ -1,6 +1,6 @@
 -- Writing a field byte by byte. Assumes nothing.
-use Rattle.std.proofs.Common.{◌≡◌, ℕ, suc, ◌+◌, ◌-◌, ◌/◌, ◌%◌, ◌<◌, ◌≤◌, List, [], ◌∷◌, ◌++◌, length, take, set, ap, arith}
-use Rattle.std.proofs.lemmas.List.{append_assoc, append-nil, length-set, take_more_set, take_all}
+use Rattle.std.proofs.Common.{◌≡◌, ℕ, suc, ◌+◌, ◌-◌, ◌/◌, ◌%◌, ◌<◌, List, [], ◌∷◌, ◌++◌, length, take, set, ap, arith}
+use Rattle.std.proofs.lemmas.List.{append_assoc, length-set, take_more_set}
 use Rattle.digits.specs.Bytes.{digit_byte}
 use Rattle.digits.specs.Fields.{low_field}
 
@@ -15,12 +15,4 @@ written_more bs i m n b l e w =
     let left : length bs - i ≡ suc (length bs - (i + 1)) = omega arith in
     let joined = append_assoc (take i bs) (b ∷ []) (low_field (length bs - (i + 1)) (m / 100)) in
     let step : low_field (length bs - i) m ≡ digit_byte (m % 100) ∷ low_field (length bs - (i + 1)) (m / 100) = ap (λ k. low_field k m) left in
-    cc
-
-pub written_all : (bs : List ℕ) (i m n : ℕ) → length bs ≤ i → Written bs i m n → bs ≡ low_field (length bs) n
-written_all bs i m n l w =
-    let none : length bs - i ≡ 0 = omega arith in
-    let whole = take_all i bs l in
-    let step : low_field (length bs - i) m ≡ [] = ap (λ k. low_field k m) none in
-    let end = append-nil bs in
     cc

@@ -1,5 +1,5 @@
 -- Fields of digit bytes: the number of a field, and the field of a number. Assumes nothing.
-use Rattle.std.specs.Prelude.{◌≡◌, ℕ, zero, suc, ◌+◌, ◌*◌, ◌/◌, ◌%◌, ◌^◌, ◌<◌, true, cond, List, [], ◌∷◌, reverse, length, Some, None, Ok, Err, Option, Result, nat_lt}
+use Rattle.std.specs.Prelude.{◌≡◌, ℕ, zero, suc, ◌+◌, ◌*◌, ◌/◌, ◌%◌, ◌^◌, ◌<◌, true, if◌then◌else◌, List, [], ◌∷◌, reverse, length, Some, None, Ok, Err, Option, Result, nat_lt}
 use Rattle.std.specs.Option.{option_map}
 use Rattle.digits.specs.declared.Order.{Order}
 use Rattle.digits.specs.declared.Order.TheVariants.{LowFirst, HighFirst}
@@ -22,7 +22,7 @@ number_of HighFirst bs = low_number (reverse bs)
 -- the place of the first stray byte: one that is no digit byte
 abbrev pub first_stray : List ℕ → Option ℕ
 first_stray [] = None
-first_stray (b ∷ bs) = cond (is_digit_byte b) (option_map (λ p. p + 1) (first_stray bs)) (Some 0)
+first_stray (b ∷ bs) = if is_digit_byte b then option_map (λ p. p + 1) (first_stray bs) else Some 0
 
 abbrev pub unless_stray : ℕ → Option ℕ → Result ℕ ℕ
 unless_stray n None = Ok n
@@ -38,7 +38,7 @@ not_digits_at (Err place) = Err (unreadable.NotDigits place)
 
 -- what reading a field comes to
 abbrev pub field_reading : Order → List ℕ → Result ℕ Unreadable
-field_reading o bs = cond (nat_lt 5 (length bs)) (Err unreadable.TooLong) (not_digits_at (number_or_stray o bs))
+field_reading o bs = if nat_lt 5 (length bs) then Err unreadable.TooLong else not_digits_at (number_or_stray o bs)
 
 -- the field of a number, low first, at a width
 abbrev pub low_field : ℕ → ℕ → List ℕ
@@ -52,7 +52,7 @@ field_of HighFirst w n = reverse (low_field w n)
 
 -- what writing a number into a field of some width comes to: it fits below 100 to the power of the width
 abbrev pub field_writing : ℕ → ℕ → Result (Unit {0}) Unwritable
-field_writing n w = cond (nat_lt 5 w) (Err unwritable.TooLong) (cond (nat_lt n (100 ^ w)) (Ok tt) (Err unwritable.DoesNotFit))
+field_writing n w = if nat_lt 5 w then Err unwritable.TooLong else if nat_lt n (100 ^ w) then Ok tt else Err unwritable.DoesNotFit
 
 -- each is a digit byte
 abbrev pub AllDigits : List ℕ → Type 0

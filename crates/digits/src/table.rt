@@ -1,9 +1,9 @@
-// The number of each byte.
-ghost use Rattle.std.specs.Prelude.{◌≡◌, ◌<◌};
-ghost use Rattle.digits.specs.Bytes.{number_of_byte};
+//! The number of each byte.
+ghost use Rattle.std.specs.Prelude.{◌≡◌, ◌<◌, if◌then◌else◌, Some, None};
+ghost use Rattle.digits.specs.Bytes.{is_digit_byte, number_of_byte};
 
-// The mark of a byte that is no digit byte.
-pub const NOT_DIGITS: u8 = 255;
+/// The mark of a byte that is no digit byte.
+const NOT_DIGITS: u8 = 255;
 
 const NUMBERS: [u8; 256] = [
     0, 1, 2, 3, 4, 5, 6, 7, 8, 9, 255, 255, 255, 255, 255, 255, 10, 11, 12, 13, 14, 15, 16, 17, 18,
@@ -21,17 +21,28 @@ const NUMBERS: [u8; 256] = [
     255, 255, 255, 255, 255, 255,
 ];
 
-// The number that a byte writes in two decimal digits, or 255 where it is no digit byte.
+/// The number that a byte writes in two decimal digits, or 255 where it is no digit byte: a number and no
+/// option, since it is the entry of a table that others read too.
 pub fn byte_number(byte: u8) -> u8
     ensures { result ≡ number_of_byte byte }
 {
-    entry(byte as usize)
+    entry(usize::from(byte))
 }
 
-// The table's rule, shown once for all its entries.
+/// The table's rule, shown once for all its entries.
 fn entry(place: usize) -> u8
     requires { place < 256 }
     ensures { result ≡ number_of_byte place }
 {
     NUMBERS[place]
+}
+
+/// The same without the mark: the number of a digit byte, and none of another.
+pub(crate) fn pair_number(byte: u8) -> Option<u8>
+    ensures { result ≡ (if is_digit_byte byte then Some (number_of_byte byte) else None) }
+{
+    match byte_number(byte) {
+        NOT_DIGITS => None,
+        number => Some(number),
+    }
 }

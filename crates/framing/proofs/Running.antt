@@ -3,7 +3,7 @@ use Rattle.std.proofs.Common.{◌≡◌, ℕ, ◌+◌, ◌<◌, Bool, true, fals
 use Rattle.std.proofs.lemmas.List.{at_drop_more}
 use Rattle.std.proofs.lemmas.Bool.{cases_Bool, eqb-true}
 use Rattle.framing.specs.declared.framer.State.TheVariants.{Preamble}
-use Rattle.framing.specs.Lists.{joined}
+use Rattle.std.specs.List.{concat}
 use Rattle.framing.specs.Frames.{stretches, frame_in, frames_in, body_of, sound_frames, is_for, frames_for}
 use Rattle.framing.specs.Machine.{Machine, at, fresh, stepped, marked, grown, in_body, complete, ends_frame, gives, leaves, gives_over, GivesSoundFrames}
 use Rattle.framing.proofs.Standing.{StandsFor, mark_stands, byte_stands, end_stands}
@@ -50,12 +50,12 @@ gives_append m (b ∷ bs) ys =
     ∙ sym (append_assoc (given m b) (gives (stepped m b) bs) (gives (leaves (stepped m b) bs) ys))
     ∙ ap (λ l. l ++ gives (leaves (stepped m b) bs) ys) (sym (gives_one m b bs))
 
-gives_joined : (m : Machine) (pieces : List (List ℕ)) → gives_over m pieces ≡ gives m (joined pieces)
+gives_joined : (m : Machine) (pieces : List (List ℕ)) → gives_over m pieces ≡ gives m (concat pieces)
 gives_joined m [] = refl
-gives_joined m (p ∷ ps) = ap (λ l. gives m p ++ l) (gives_joined (leaves m p) ps) ∙ sym (gives_append m p (joined ps))
+gives_joined m (p ∷ ps) = ap (λ l. gives m p ++ l) (gives_joined (leaves m p) ps) ∙ sym (gives_append m p (concat ps))
 
 pub gives_sound_frames : GivesSoundFrames
-gives_sound_frames pieces = gives_joined fresh pieces ∙ gives_stream (joined pieces)
+gives_sound_frames pieces = gives_joined fresh pieces ∙ gives_stream (concat pieces)
 
 -- one byte on in a stream, where it is known whether a frame ends there
 pub gives_turn :

@@ -2,12 +2,13 @@
 use Rattle.std.proofs.Common.{◌≡◌, ℕ, eqb, List, [], ◌∷◌, ◌++◌, map, sym, ap, ◌∙◌, inl, inr, append_assoc}
 use Rattle.std.proofs.lemmas.List.{append-nil}
 use Rattle.std.proofs.lemmas.Bool.{cases_Bool, eqb-true, eqb-false}
-use Rattle.framing.specs.Lists.{joined, All}
+use Rattle.std.specs.List.{concat}
+use Rattle.framing.specs.Lists.{All}
 use Rattle.framing.specs.Frames.{stretches, waiting, NoEnd, StretchesEndAtFd}
 
 -- stretches with their ends, and what waits
 abbrev rejoined : List (List ℕ) → List ℕ → List ℕ
-rejoined ss kept = joined (map (λ stretch. stretch ++ (0xFD ∷ [])) ss) ++ kept
+rejoined ss kept = concat (map (λ stretch. stretch ++ (0xFD ∷ [])) ss) ++ kept
 
 -- the stretches of some bytes behind those that were kept, and what waits after them
 record Cut (kept bytes : List ℕ) (ss : List (List ℕ)) (left : List ℕ) : Type 0 where
@@ -31,7 +32,7 @@ cut kept (b ∷ bs) h =
                 sym (append_assoc kept (b ∷ []) bs)
                 ∙ ap (λ c. (kept ++ (c ∷ [])) ++ bs) (eqb-true b 0xFD e)
                 ∙ ap (λ l. (kept ++ (0xFD ∷ [])) ++ l) more.whole
-                ∙ sym (append_assoc (kept ++ (0xFD ∷ [])) (joined (map (λ stretch. stretch ++ (0xFD ∷ [])) (stretches [] bs))) (waiting [] bs));
+                ∙ sym (append_assoc (kept ++ (0xFD ∷ [])) (concat (map (λ stretch. stretch ++ (0xFD ∷ [])) (stretches [] bs))) (waiting [] bs));
             ends = (h, more.ends);
             end = more.end;
           })

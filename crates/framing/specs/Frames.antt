@@ -1,17 +1,18 @@
 -- Stretches of a stream, their bodies, and the sound frames. Assumes nothing.
 -- FE is the mark, FD the end, FC the jammer; FB and FA are a receiver's answers.
-use Rattle.std.specs.Prelude.{◌≡◌, ℕ, Bool, true, false, cond, not, ◌&&◌, ◌||◌, List, [], ◌∷◌, ◌++◌, map, length, Some, None, Option, ◌==◌, ◌≢◌, nat_le, slice_index}
-use Rattle.framing.specs.Lists.{only, joined, All}
+use Rattle.std.specs.Prelude.{◌≡◌, ℕ, Bool, true, false, not, if◌then◌else◌, ◌&&◌, ◌||◌, List, [], ◌∷◌, ◌++◌, map, length, filter, Some, None, Option, ◌==◌, ◌≢◌, nat_le, slice_index}
+use Rattle.std.specs.List.{concat}
+use Rattle.framing.specs.Lists.{All}
 
 -- the stretches that an FD ends in some bytes, where `kept` came since the last FD before them
 abbrev pub stretches : List ℕ → List ℕ → List (List ℕ)
 stretches kept [] = []
-stretches kept (b ∷ bs) = cond (b == 0xFD) (kept ∷ stretches [] bs) (stretches (kept ++ (b ∷ [])) bs)
+stretches kept (b ∷ bs) = if b == 0xFD then kept ∷ stretches [] bs else stretches (kept ++ (b ∷ [])) bs
 
 -- what follows the last FD, and waits for more
 abbrev pub waiting : List ℕ → List ℕ → List ℕ
 waiting kept [] = kept
-waiting kept (b ∷ bs) = cond (b == 0xFD) (waiting [] bs) (waiting (kept ++ (b ∷ [])) bs)
+waiting kept (b ∷ bs) = if b == 0xFD then waiting [] bs else waiting (kept ++ (b ∷ [])) bs
 
 -- no FD is among the bytes
 abbrev pub NoEnd : List ℕ → Type 0
@@ -21,7 +22,7 @@ NoEnd = All (λ b. b ≢ 0xFD)
 abbrev pub StretchesEndAtFd : Type 0
 StretchesEndAtFd =
     (stream : List ℕ) →
-    (stream ≡ joined (map (λ stretch. stretch ++ (0xFD ∷ [])) (stretches [] stream)) ++ waiting [] stream) ×
+    (stream ≡ concat (map (λ stretch. stretch ++ (0xFD ∷ [])) (stretches [] stream)) ++ waiting [] stream) ×
     All NoEnd (stretches [] stream) ×
     NoEnd (waiting [] stream)
 
@@ -43,7 +44,7 @@ or_else None y = y
 abbrev pub body_of : List ℕ → Option (List ℕ)
 body_of [] = None
 body_of (a ∷ []) = None
-body_of (a ∷ b ∷ bs) = or_else (body_of (b ∷ bs)) (cond (a == 0xFE && b == 0xFE) (Some bs) None)
+body_of (a ∷ b ∷ bs) = or_else (body_of (b ∷ bs)) (if a == 0xFE && b == 0xFE then Some bs else None)
 
 -- that is the body after the last pair, and there is none only where there is no pair
 abbrev pub BodiesFollowLastPairs : Type 0
@@ -81,7 +82,7 @@ sound body =
 -- the frame that a stretch holds, if it has a body and that is sound
 abbrev pub frame_in : Option (List ℕ) → List (List ℕ)
 frame_in None = []
-frame_in (Some body) = cond (sound body) (body ∷ []) []
+frame_in (Some body) = if sound body then body ∷ [] else []
 
 abbrev pub frames_in : List (List ℕ) → List (List ℕ)
 frames_in [] = []
@@ -97,4 +98,4 @@ is_for address [] = false
 is_for address (b ∷ bs) = b == address
 
 abbrev pub frames_for : ℕ → List (List ℕ) → List (List ℕ)
-frames_for address frames = only (is_for address) frames
+frames_for address frames = filter (is_for address) frames

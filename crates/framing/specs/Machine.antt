@@ -1,18 +1,14 @@
 -- The framing machine: what it remembers of a stretch, and which frames it gives. Assumes nothing.
-use Rattle.std.specs.Prelude.{◌≡◌, ℕ, Bool, true, false, cond, not, ◌&&◌, ◌||◌, List, [], ◌∷◌, ◌++◌, length, take, ◌==◌, nat_le}
+use Rattle.std.specs.Prelude.{◌≡◌, ℕ, Bool, true, false, not, if◌then◌else◌, ◌&&◌, ◌||◌, List, [], ◌∷◌, ◌++◌, length, ◌==◌, nat_le}
 use Rattle.framing.specs.declared.framer.State.{State}
 use Rattle.framing.specs.declared.framer.State.TheVariants.{Preamble, Body, Void}
-use Rattle.framing.specs.declared.framer.Framer.{Framer}
-use Rattle.framing.specs.Lists.{joined}
+use Rattle.std.specs.List.{concat}
 use Rattle.framing.specs.Frames.{from_controller, is_answer, sound_frames}
 
 -- where the machine stands, and the body that it gathered last
 pub record Machine : Type 0 where
   pub state : State
   pub held : List ℕ
-
-abbrev pub machine_of : Framer → Machine
-machine_of f = record { state = f.state; held = take f.len f.body }
 
 abbrev pub at : State → List ℕ → Machine
 at s held = record { state = s; held = held }
@@ -33,14 +29,13 @@ marked (Void true) held = at Body []
 -- a byte that is neither FD nor FE: an FC spoils a body, and so does a byte after 40
 abbrev pub grown : State → List ℕ → ℕ → Machine
 grown (Preamble m) held b = at (Preamble false) held
-grown Body held b = cond (b == 0xFC || nat_le 40 (length held)) (at (Void false) held) (at Body (held ++ (b ∷ [])))
+grown Body held b = if b == 0xFC || nat_le 40 (length held) then at (Void false) held else at Body (held ++ (b ∷ []))
 grown (Void m) held b = at (Void false) held
 
 -- the machine after a byte
 abbrev pub stepped : Machine → ℕ → Machine
 stepped m b =
-    cond (b == 0xFD) (at (Preamble false) m.held)
-    (cond (b == 0xFE) (marked m.state m.held) (grown m.state m.held b))
+    if b == 0xFD then at (Preamble false) m.held else if b == 0xFE then marked m.state m.held else grown m.state m.held b
 
 -- the rules that are left to the end of a body
 abbrev pub complete : List ℕ → Bool
@@ -58,7 +53,7 @@ ends_frame m b = b == 0xFD && (in_body m.state && complete m.held)
 -- the frames that the machine gives over a piece of the stream, each by the body that it then holds
 abbrev pub gives : Machine → List ℕ → List (List ℕ)
 gives m [] = []
-gives m (b ∷ bs) = cond (ends_frame m b) ((stepped m b).held ∷ gives (stepped m b) bs) (gives (stepped m b) bs)
+gives m (b ∷ bs) = if ends_frame m b then (stepped m b).held ∷ gives (stepped m b) bs else gives (stepped m b) bs
 
 -- the machine after a piece
 abbrev pub leaves : Machine → List ℕ → Machine
@@ -72,4 +67,4 @@ gives_over m (p ∷ ps) = gives m p ++ gives_over (leaves m p) ps
 
 -- however a stream is cut, the machine gives just its sound frames, in order
 abbrev pub GivesSoundFrames : Type 0
-GivesSoundFrames = (pieces : List (List ℕ)) → gives_over fresh pieces ≡ sound_frames (joined pieces)
+GivesSoundFrames = (pieces : List (List ℕ)) → gives_over fresh pieces ≡ sound_frames (concat pieces)

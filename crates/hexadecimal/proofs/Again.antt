@@ -1,6 +1,8 @@
 -- The line of some bytes reads as these bytes. Assumes nothing.
-use Rattle.std.proofs.Common.{◌≡◌, ℕ, suc, ◌+◌, ◌*◌, ◌/◌, ◌%◌, ◌<◌, ◌≤◌, leb, List, [], ◌∷◌, length, get_or, Ok, ap, ◌∙◌, arith}
+use Rattle.std.proofs.Common.{◌≡◌, ℕ, ◌+◌, ◌*◌, ◌/◌, ◌%◌, ◌<◌, ◌≤◌, leb, List, [], ◌∷◌, length, Ok, ap, ◌∙◌, arith}
+use Rattle.std.specs.List.{All}
 use Rattle.std.proofs.lemmas.Bool.{cond-false, lt-leb}
+use Rattle.std.proofs.lemmas.List.Elements.{All-head, All-tail}
 use Rattle.hexadecimal.specs.declared.symbols.Symbol.TheVariants.{Digit}
 use Rattle.hexadecimal.specs.declared.reader.Standing.{Standing}
 use Rattle.hexadecimal.specs.declared.reader.Standing.TheVariants.{Between, Half}
@@ -28,14 +30,14 @@ first_pair b p xs h below =
     ∙ first_digit (Half (b / 16)) (p + 1) below (b % 16) xs (omega arith)
     ∙ ap (λ n. before n (reading_from Between (p + 1 + 1) xs)) e
 
-line_from : (bs : List ℕ) (p : ℕ) → ((k : ℕ) → k < length bs → get_or bs k 0 < 256) → p + length (line bs) ≤ 4096 → reading_from Between p (line bs) ≡ Ok bs
+line_from : (bs : List ℕ) (p : ℕ) → All (λ b. b < 256) bs → p + length (line bs) ≤ 4096 → reading_from Between p (line bs) ≡ Ok bs
 line_from [] p small room = first Between p (omega arith) 10 []
 line_from (b ∷ []) p small room =
-    first_pair b p (10 ∷ []) (small 0 (omega arith)) (omega arith)
+    first_pair b p (10 ∷ []) (All-head (λ b. b < 256) b [] small) (omega arith)
     ∙ ap (before b) (first Between (p + 1 + 1) (omega arith) 10 [])
 line_from (b ∷ c ∷ cs) p small room =
-    first_pair b p (32 ∷ line (c ∷ cs)) (small 0 (omega arith)) (omega arith)
-    ∙ ap (before b) (first Between (p + 1 + 1) (omega arith) 32 (line (c ∷ cs)) ∙ line_from (c ∷ cs) (p + 1 + 1 + 1) (λ k h. small (suc k) (omega arith)) (omega arith))
+    first_pair b p (32 ∷ line (c ∷ cs)) (All-head (λ b. b < 256) b (c ∷ cs) small) (omega arith)
+    ∙ ap (before b) (first Between (p + 1 + 1) (omega arith) 32 (line (c ∷ cs)) ∙ line_from (c ∷ cs) (p + 1 + 1 + 1) (All-tail (λ b. b < 256) b (c ∷ cs) small) (omega arith))
 
 pub line_reads_again : LineReadsAgain
 line_reads_again bytes small room = line_from bytes 0 small (omega arith)

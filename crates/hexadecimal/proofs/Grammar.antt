@@ -1,15 +1,19 @@
 -- A text is read by the rules. Assumes nothing.
-use Rattle.std.proofs.Common.{◌≡◌, ℕ, ◌+◌, ◌*◌, Bool, true, false, ◌⊎◌, List, [], ◌∷◌, ◌++◌, sym, refl, ap, ◌∙◌, subst, inl, inr}
+use Rattle.std.proofs.Common.{◌≡◌, ℕ, ◌+◌, ◌*◌, ◌⊎◌, List, [], ◌∷◌, ◌++◌, Some, None, Option, sym, refl, ap, subst, inl, inr, ◌≢◌}
+use Rattle.std.proofs.lemmas.List.Elements.{All-nil, All-cons, All-head, All-tail}
 use Rattle.hexadecimal.specs.declared.symbols.Symbol.{Symbol}
 use Rattle.hexadecimal.specs.declared.symbols.Symbol.TheVariants.{Digit, Blank, LineEnd, Hash, Other}
 use Rattle.hexadecimal.specs.declared.reader.Standing.{Standing}
 use Rattle.hexadecimal.specs.declared.reader.Standing.TheVariants.{Between, Half, Remark}
 use Rattle.hexadecimal.specs.declared.reader.Step.{Step}
-use Rattle.hexadecimal.specs.declared.reader.Step.TheVariants.{Onward, Pair, Broken}
-use Rattle.std.proofs.lemmas.Bool.{false≢true}
+use Rattle.hexadecimal.specs.declared.reader.Step.TheVariants.{Onward, Pair}
 use Rattle.hexadecimal.specs.Symbols.{symbol_of}
 use Rattle.hexadecimal.specs.Texts.{advanced}
 use Rattle.hexadecimal.specs.Grammar.{OneLine, Spells, nothing, pair, blank, remark, last_remark}
+
+-- what no character of a line is
+abbrev pub NoLineEnd : ℕ → Type 0
+NoLineEnd c = symbol_of c ≢ LineEnd
 
 -- the rest of a text after the first digit of a pair
 pub record HalfRead (h : ℕ) (text bytes : List ℕ) : Type 0 where
@@ -39,10 +43,10 @@ Left (Half h) text bytes = HalfRead h text bytes
 Left Remark text bytes = (OneLine text × (bytes ≡ [])) ⊎ Closed text bytes
 
 -- the same after a step
-abbrev pub After : Step → List ℕ → List ℕ → Type 0
-After (Onward s) text bytes = Left s text bytes
-After (Pair b) text bytes = (others : List ℕ) × (bytes ≡ b ∷ others) × Spells text others
-After Broken text bytes = ⊥
+abbrev pub After : Option Step → List ℕ → List ℕ → Type 0
+After (Some (Onward s)) text bytes = Left s text bytes
+After (Some (Pair b)) text bytes = (others : List ℕ) × (bytes ≡ b ∷ others) × Spells text others
+After None text bytes = ⊥
 
 half_pair : (h c : ℕ) (text bytes : List ℕ) → symbol_of c ≡ Digit h → HalfRead h text bytes → Spells (c ∷ text) bytes
 half_pair h c text bytes e r =
@@ -53,20 +57,9 @@ hash_remark c text bytes e (inl r) = subst (λ b. Spells (c ∷ text) b) (sym r.
 hash_remark c text bytes e (inr r) = subst (λ t. Spells (c ∷ t) bytes) (sym r.is) (remark c r.end r.skipped r.rest bytes e r.one_line r.ends r.spells)
 
 skip_more : (c : ℕ) (text bytes : List ℕ) → (symbol_of c ≡ LineEnd → ⊥) → Left Remark text bytes → Left Remark (c ∷ text) bytes
-skip_more c text bytes n (inl r) = inl ((n, r.0), r.1)
+skip_more c text bytes n (inl r) = inl (All-cons NoLineEnd c text n r.0, r.1)
 skip_more c text bytes n (inr r) =
-    inr (record { skipped = c ∷ r.skipped; end = r.end; rest = r.rest; is = ap (λ t. c ∷ t) r.is; one_line = (n, r.one_line); ends = r.ends; spells = r.spells })
-
-abbrev ends_line : Symbol → Bool
-ends_line (Digit d) = false
-ends_line Blank = false
-ends_line LineEnd = true
-ends_line Hash = false
-ends_line Other = false
-
--- a symbol that is no line end
-other_symbol : (m n : Symbol) → m ≡ n → ends_line n ≡ false → m ≡ LineEnd → ⊥
-other_symbol m n e f l = false≢true (sym f ∙ ap ends_line (sym e ∙ l))
+    inr (record { skipped = c ∷ r.skipped; end = r.end; rest = r.rest; is = ap (λ t. c ∷ t) r.is; one_line = All-cons NoLineEnd c r.skipped n r.one_line; ends = r.ends; spells = r.spells })
 
 -- a character in front of a rest
 pub derive : (s : Standing) (m : Symbol) (c : ℕ) (text bytes : List ℕ) → symbol_of c ≡ m → After (advanced s m) text bytes → Left s (c ∷ text) bytes
@@ -81,12 +74,12 @@ derive (Half h) Blank c text bytes e r = absurd r
 derive (Half h) LineEnd c text bytes e r = absurd r
 derive (Half h) Hash c text bytes e r = absurd r
 derive (Half h) Other c text bytes e r = absurd r
-derive Remark (Digit d) c text bytes e r = skip_more c text bytes (other_symbol (symbol_of c) (Digit d) e refl) r
-derive Remark Blank c text bytes e r = skip_more c text bytes (other_symbol (symbol_of c) Blank e refl) r
+derive Remark (Digit d) c text bytes e r = skip_more c text bytes (λ l. cc) r
+derive Remark Blank c text bytes e r = skip_more c text bytes (λ l. cc) r
 derive Remark LineEnd c text bytes e r =
-    inr (record { skipped = []; end = c; rest = text; is = refl; one_line = tt; ends = e; spells = r })
-derive Remark Hash c text bytes e r = skip_more c text bytes (other_symbol (symbol_of c) Hash e refl) r
-derive Remark Other c text bytes e r = skip_more c text bytes (other_symbol (symbol_of c) Other e refl) r
+    inr (record { skipped = []; end = c; rest = text; is = refl; one_line = All-nil NoLineEnd; ends = e; spells = r })
+derive Remark Hash c text bytes e r = skip_more c text bytes (λ l. cc) r
+derive Remark Other c text bytes e r = skip_more c text bytes (λ l. cc) r
 
 -- and the other way round: what a text of the grammar has after its first character
 abbrev pub Next : List ℕ → List ℕ → Type 0
@@ -115,24 +108,18 @@ stays_remark LineEnd text bytes n r = absurd (n refl)
 stays_remark Hash text bytes n r = r
 stays_remark Other text bytes n r = r
 
-head_same : (a b : ℕ) (xs ys : List ℕ) → a ∷ xs ≡ b ∷ ys → a ≡ b
-head_same a b xs ys e = cc
-
-tail_same : (a b : ℕ) (xs ys : List ℕ) → a ∷ xs ≡ b ∷ ys → xs ≡ ys
-tail_same a b xs ys e = cc
-
 closed : (c : ℕ) (text bytes skipped : List ℕ) (end : ℕ) (rest : List ℕ) → c ∷ text ≡ skipped ++ (end ∷ rest) → OneLine skipped → symbol_of end ≡ LineEnd → Spells rest bytes → After (advanced Remark (symbol_of c)) text bytes
 closed c text bytes [] end rest e o l r =
-    by_symbol Remark c LineEnd text bytes (ap symbol_of (head_same c end text rest e) ∙ l) (subst (λ t. Spells t bytes) (sym (tail_same c end text rest e)) r)
+    let same : rest ≡ text = cc in
+    by_symbol Remark c LineEnd text bytes (cc) (subst (λ t. Spells t bytes) same r)
 closed c text bytes (x ∷ xs) end rest e o l r =
-    stays_remark (symbol_of c) text bytes (λ q. o.0 (ap symbol_of (sym (head_same c x text (xs ++ (end ∷ rest)) e)) ∙ q))
-    (inr (record { skipped = xs; end = end; rest = rest; is = tail_same c x text (xs ++ (end ∷ rest)) e; one_line = o.1; ends = l; spells = r }))
+    stays_remark (symbol_of c) text bytes (λ q. All-head NoLineEnd x xs o cc)
+    (inr (record { skipped = xs; end = end; rest = rest; is = cc; one_line = All-tail NoLineEnd x xs o; ends = l; spells = r }))
 
 pub inverse : (s : Standing) (c : ℕ) (text bytes : List ℕ) → Left s (c ∷ text) bytes → After (advanced s (symbol_of c)) text bytes
 inverse Between c text bytes r = next (c ∷ text) bytes r
 inverse (Half h) c text bytes r =
-    let same = head_same c r.second text r.rest r.is in
-    by_symbol (Half h) c (Digit r.digit) text bytes (ap symbol_of same ∙ r.shows)
-    (r.others, r.gives, subst (λ t. Spells t r.others) (sym (tail_same c r.second text r.rest r.is)) r.spells)
-inverse Remark c text bytes (inl r) = stays_remark (symbol_of c) text bytes r.0.0 (inl (r.0.1, r.1))
+    let same : r.rest ≡ text = cc in
+    by_symbol (Half h) c (Digit r.digit) text bytes (cc) (r.others, r.gives, subst (λ t. Spells t r.others) same r.spells)
+inverse Remark c text bytes (inl r) = stays_remark (symbol_of c) text bytes (All-head NoLineEnd c text r.0) (inl (All-tail NoLineEnd c text r.0, r.1))
 inverse Remark c text bytes (inr r) = closed c text bytes r.skipped r.end r.rest r.is r.one_line r.ends r.spells

@@ -1,9 +1,6 @@
 pub mod Readings
 pub mod Overlong
-pub mod Placing
 pub mod Spaced
-pub mod Decimals
 pub mod Again
-pub mod Appending
 pub mod Grammar
 pub mod Rules

@@ -1,10 +1,10 @@
 -- A text that goes on after 4,096 characters. Assumes nothing.
-use Rattle.std.proofs.Common.{◌≡◌, ℕ, ◌+◌, leb, List, [], ◌∷◌, ◌++◌, length, Ok, Err, sym, refl, ap, ◌∙◌, arith}
+use Rattle.std.proofs.Common.{◌≡◌, ℕ, ◌+◌, leb, List, [], ◌∷◌, ◌++◌, length, Some, None, Ok, Err, Option, sym, refl, ap, ◌∙◌, arith}
 use Rattle.std.proofs.lemmas.Bool.{cond-false, lt-leb}
 use Rattle.hexadecimal.specs.declared.reader.Standing.{Standing}
 use Rattle.hexadecimal.specs.declared.reader.Standing.TheVariants.{Between, Half, Remark}
 use Rattle.hexadecimal.specs.declared.reader.Step.{Step}
-use Rattle.hexadecimal.specs.declared.reader.Step.TheVariants.{Onward, Pair, Broken}
+use Rattle.hexadecimal.specs.declared.reader.Step.TheVariants.{Onward, Pair}
 use Rattle.hexadecimal.specs.declared.reader.BadText.{BadText}
 use Rattle.hexadecimal.specs.Symbols.{symbol_of}
 use Rattle.hexadecimal.specs.Texts.{Reading, bad, before, advanced, by_step, at_end, reading_from, text_reading, overlong}
@@ -15,10 +15,10 @@ before_overlong b (Ok bs) longer e = ap (before b) e
 before_overlong b (Err x) longer e = ap (before b) e
 
 module _ (p : ℕ) (rest longer : Standing → Reading) (goes_on : (t : Standing) → longer t ≡ Err (overlong (rest t))) where
-  step_overlong : (r : Step) → by_step r p longer ≡ Err (overlong (by_step r p rest))
-  step_overlong (Onward t) = goes_on t
-  step_overlong (Pair b) = before_overlong b (rest Between) (longer Between) (goes_on Between)
-  step_overlong Broken = refl
+  step_overlong : (r : Option Step) → by_step r p longer ≡ Err (overlong (by_step r p rest))
+  step_overlong (Some (Onward t)) = goes_on t
+  step_overlong (Some (Pair b)) = before_overlong b (rest Between) (longer Between) (goes_on Between)
+  step_overlong None = refl
 
 end_overlong : (s : Standing) → bad 4096 ≡ Err (overlong (at_end s 4096))
 end_overlong Between = refl

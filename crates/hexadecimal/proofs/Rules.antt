@@ -1,38 +1,30 @@
 -- What is read of a text, against its grammar. Assumes nothing.
-use Rattle.std.proofs.Common.{◌≡◌, ℕ, suc, ◌+◌, ◌-◌, ◌*◌, ◌<◌, ◌≤◌, Bool, true, false, cond, leb, ◌⊎◌, List, [], ◌∷◌, ◌++◌, length, take, is_ok, Ok, Err, sym, refl, ap, ◌∙◌, subst, inl, inr, arith, length-append}
-use Rattle.std.proofs.lemmas.Bool.{true≢false, leb-true, leb-false, cases_lt}
+use Rattle.std.proofs.Common.{◌≡◌, ℕ, suc, ◌+◌, ◌-◌, ◌*◌, ◌<◌, ◌≤◌, Bool, true, false, cond, leb, ◌⊎◌, List, [], ◌∷◌, ◌++◌, length, take, Some, None, Ok, Err, Option, sym, refl, ap, ◌∙◌, subst, inl, inr, arith, length-append}
+use Rattle.std.proofs.lemmas.Bool.{leb-true, leb-false, cases_lt}
+use Rattle.std.proofs.lemmas.List.Elements.{All-nil}
 use Rattle.hexadecimal.specs.declared.reader.Standing.{Standing}
 use Rattle.hexadecimal.specs.declared.reader.Standing.TheVariants.{Between, Half, Remark}
 use Rattle.hexadecimal.specs.declared.reader.Step.{Step}
-use Rattle.hexadecimal.specs.declared.reader.Step.TheVariants.{Onward, Pair, Broken}
+use Rattle.hexadecimal.specs.declared.reader.Step.TheVariants.{Onward, Pair}
+use Rattle.hexadecimal.specs.declared.reader.BadText.{BadText}
 use Rattle.hexadecimal.specs.Symbols.{symbol_of}
 use Rattle.hexadecimal.specs.Texts.{Reading, bad, before, advanced, by_step, at_end, reading_from, text_reading}
 use Rattle.hexadecimal.specs.Grammar.{Spells, nothing, CanGoOn, FirstFault, ReadsByRules}
 use Rattle.hexadecimal.proofs.Again.{first}
-use Rattle.hexadecimal.proofs.Grammar.{Left, After, derive, inverse, next}
-
--- an answer is one of the two
-not_both : (bytes : List ℕ) (p : ℕ) → ◌≡◌ {A = Reading} (Ok bytes) (bad p) → ⊥
-not_both bytes p e = true≢false (ap is_ok e)
-
-told : Reading → ℕ
-told (Ok bytes) = 0
-told (Err e) = e.position
+use Rattle.hexadecimal.proofs.Grammar.{NoLineEnd, Left, After, derive, inverse, next}
 
 same_position : (p q : ℕ) → bad p ≡ bad q → p ≡ q
-unfolding told
-same_position p q e = ap told e
-
-same_bytes : (xs ys : List ℕ) → ◌≡◌ {A = Reading} (Ok xs) (Ok ys) → xs ≡ ys
-same_bytes xs ys e = cc
+same_position p q e =
+    let same : ◌≡◌ {A = BadText} (record { position = p }) (record { position = q }) = cc in
+    ap (λ told. told.position) same
 
 -- a pair's byte stands before the bytes of the rest, and alters no position
 before_ok : (b : ℕ) (r : Reading) (bytes : List ℕ) → before b r ≡ Ok bytes → (others : List ℕ) × (bytes ≡ b ∷ others) × (r ≡ Ok others)
-before_ok b (Ok bs) bytes e = (bs, sym (same_bytes (b ∷ bs) bytes e), refl)
-before_ok b (Err x) bytes e = absurd (not_both bytes x.position (sym e))
+before_ok b (Ok bs) bytes e = (bs, cc, refl)
+before_ok b (Err x) bytes e = absurd cc
 
 before_bad : (b : ℕ) (r : Reading) (q : ℕ) → before b r ≡ bad q → r ≡ bad q
-before_bad b (Ok bs) q e = absurd (not_both (b ∷ bs) q e)
+before_bad b (Ok bs) q e = absurd cc
 before_bad b (Err x) q e = e
 
 -- what is left of a text that has ended
@@ -43,10 +35,10 @@ none_left Remark p bytes (inl r) = ap Ok (sym r.1)
 none_left Remark p bytes (inr r) = absurd (omega (arith, ap length r.is, length-append r.skipped (r.end ∷ r.rest)))
 
 -- a text of the grammar is read
-step_reads : (r : Step) (p : ℕ) (rest : Standing → Reading) (text bytes : List ℕ) → ((s : Standing) (bs : List ℕ) → Left s text bs → rest s ≡ Ok bs) → After r text bytes → by_step r p rest ≡ Ok bytes
-step_reads (Onward s) p rest text bytes h r = h s bytes r
-step_reads (Pair b) p rest text bytes h r = ap (before b) (h Between r.0 r.2) ∙ ap Ok (sym r.1)
-step_reads Broken p rest text bytes h r = absurd r
+step_reads : (r : Option Step) (p : ℕ) (rest : Standing → Reading) (text bytes : List ℕ) → ((s : Standing) (bs : List ℕ) → Left s text bs → rest s ≡ Ok bs) → After r text bytes → by_step r p rest ≡ Ok bytes
+step_reads (Some (Onward s)) p rest text bytes h r = h s bytes r
+step_reads (Some (Pair b)) p rest text bytes h r = ap (before b) (h Between r.0 r.2) ∙ ap Ok (sym r.1)
+step_reads None p rest text bytes h r = absurd r
 
 reads : (s : Standing) (p : ℕ) (text bytes : List ℕ) → Left s text bytes → p + length text ≤ 4096 → reading_from s p text ≡ Ok bytes
 reads s p [] bytes r few = none_left s p bytes r
@@ -56,17 +48,17 @@ reads s p (c ∷ cs) bytes r few =
 
 -- what is read is a text of the grammar
 ended : (s : Standing) (p : ℕ) (bytes : List ℕ) → at_end s p ≡ Ok bytes → Left s [] bytes
-ended Between p bytes e = subst (λ b. Spells [] b) (same_bytes [] bytes e) nothing
-ended (Half h) p bytes e = absurd (not_both bytes p (sym e))
-ended Remark p bytes e = inl (tt, sym (same_bytes [] bytes e))
+ended Between p bytes e = let none : [] ≡ bytes = cc in subst (λ b. Spells [] b) none nothing
+ended (Half h) p bytes e = absurd cc
+ended Remark p bytes e = inl (All-nil NoLineEnd, cc)
 
-step_spells : (r : Step) (p : ℕ) (rest : Standing → Reading) (text bytes : List ℕ) (K : Type 0) → ((s : Standing) (bs : List ℕ) → rest s ≡ Ok bs → Left s text bs × K) → by_step r p rest ≡ Ok bytes → After r text bytes × K
-step_spells (Onward s) p rest text bytes K h e = h s bytes e
-step_spells (Pair b) p rest text bytes K h e =
+step_spells : (r : Option Step) (p : ℕ) (rest : Standing → Reading) (text bytes : List ℕ) (K : Type 0) → ((s : Standing) (bs : List ℕ) → rest s ≡ Ok bs → Left s text bs × K) → by_step r p rest ≡ Ok bytes → After r text bytes × K
+step_spells (Some (Onward s)) p rest text bytes K h e = h s bytes e
+step_spells (Some (Pair b)) p rest text bytes K h e =
     let f = before_ok b (rest Between) bytes e in
     let g = h Between f.0 f.2 in
     ((f.0, f.1, g.0), g.1)
-step_spells Broken p rest text bytes K h e = absurd (not_both bytes p (sym e))
+step_spells None p rest text bytes K h e = absurd cc
 
 -- a character is one too many, or it is read
 at_limit : (p : ℕ) (r answer : Reading) → cond (leb 4096 p) (bad p) r ≡ answer → ((4096 ≤ p) × (bad p ≡ answer)) ⊎ ((p < 4096) × (r ≡ answer))
@@ -81,7 +73,7 @@ spells s p [] bytes e few = (ended s p bytes e, omega arith)
 spells s p (c ∷ cs) bytes e few =
     let rest : Standing → Reading = λ t. reading_from t (p + 1) cs in
     elim (at_limit p (by_step (advanced s (symbol_of c)) p rest) (Ok bytes) e) [
-      | inl h ↦ absurd (not_both bytes p (sym h.1))
+      | inl h ↦ absurd (cc h.1)
       | inr h ↦
           let below : p < 4096 = h.0 in
           let after = step_spells (advanced s (symbol_of c)) p rest cs bytes (p + 1 + length cs ≤ 4096) (λ t bs q. spells t (p + 1) cs bs q (omega arith)) h.1 in
@@ -92,7 +84,7 @@ spells s p (c ∷ cs) bytes e few =
 complete : (s : Standing) → (more bytes : List ℕ) × Left s more bytes
 complete Between = ([], [], nothing)
 complete (Half h) = (48 ∷ [], (16 * h + 0) ∷ [], record { second = 48; digit = 0; rest = []; others = []; is = refl; shows = refl; gives = refl; spells = nothing })
-complete Remark = ([], [], inl (tt, refl))
+complete Remark = ([], [], inl (All-nil NoLineEnd, refl))
 
 -- the fault at q of a text that is read from p on
 record Fault (s : Standing) (p : ℕ) (text : List ℕ) (q : ℕ) : Type 0 where
@@ -112,23 +104,23 @@ here s p text q e =
     }
 
 end_bad : (s : Standing) (p q : ℕ) → at_end s p ≡ bad q → p ≡ q
-end_bad Between p q e = absurd (not_both [] q e)
+end_bad Between p q e = absurd cc
 end_bad (Half h) p q e = same_position p q e
-end_bad Remark p q e = absurd (not_both [] q e)
+end_bad Remark p q e = absurd cc
 
 -- a fault after a step
-record Later (r : Step) (p : ℕ) (text : List ℕ) (q : ℕ) : Type 0 where
+record Later (r : Option Step) (p : ℕ) (text : List ℕ) (q : ℕ) : Type 0 where
   from : p + 1 ≤ q
   to : q ≤ p + 1 + length text
   limit : p + 1 ≤ 4096 → q ≤ 4096
   begins : (more bytes : List ℕ) × After r (take (q - (p + 1)) text ++ more) bytes
 
-step_fault : (r : Step) (p : ℕ) (rest : Standing → Reading) (text : List ℕ) (q : ℕ) → ((s : Standing) → rest s ≡ bad q → Fault s (p + 1) text q) → by_step r p rest ≡ bad q → (p ≡ q) ⊎ Later r p text q
-step_fault (Onward s) p rest text q h e = let f = h s e in inr (record { from = f.from; to = f.to; limit = f.limit; begins = f.begins })
-step_fault (Pair b) p rest text q h e =
+step_fault : (r : Option Step) (p : ℕ) (rest : Standing → Reading) (text : List ℕ) (q : ℕ) → ((s : Standing) → rest s ≡ bad q → Fault s (p + 1) text q) → by_step r p rest ≡ bad q → (p ≡ q) ⊎ Later r p text q
+step_fault (Some (Onward s)) p rest text q h e = let f = h s e in inr (record { from = f.from; to = f.to; limit = f.limit; begins = f.begins })
+step_fault (Some (Pair b)) p rest text q h e =
     let f = h Between (before_bad b (rest Between) q e) in
     inr (record { from = f.from; to = f.to; limit = f.limit; begins = (f.begins.0, b ∷ f.begins.1, (f.begins.1, refl, f.begins.2)) })
-step_fault Broken p rest text q h e = inl (same_position p q e)
+step_fault None p rest text q h e = inl (same_position p q e)
 
 -- one character before the fault
 earlier : (s : Standing) (p c : ℕ) (cs : List ℕ) (q : ℕ) → p < 4096 → Later (advanced s (symbol_of c)) p cs q → Fault s p (c ∷ cs) q
@@ -162,10 +154,10 @@ faults s p (c ∷ cs) q e =
     ]
 
 -- no text of the grammar begins with the characters up to a fault and the one there
-step_breaks : (r : Step) (p : ℕ) (rest : Standing → Reading) (text bytes : List ℕ) (q : ℕ) → ((s : Standing) (bs : List ℕ) → rest s ≡ bad q → Left s text bs → ⊥) → by_step r p rest ≡ bad q → After r text bytes → ⊥
-step_breaks (Onward s) p rest text bytes q h e a = h s bytes e a
-step_breaks (Pair b) p rest text bytes q h e a = h Between a.0 (before_bad b (rest Between) q e) a.2
-step_breaks Broken p rest text bytes q h e a = a
+step_breaks : (r : Option Step) (p : ℕ) (rest : Standing → Reading) (text bytes : List ℕ) (q : ℕ) → ((s : Standing) (bs : List ℕ) → rest s ≡ bad q → Left s text bs → ⊥) → by_step r p rest ≡ bad q → After r text bytes → ⊥
+step_breaks (Some (Onward s)) p rest text bytes q h e a = h s bytes e a
+step_breaks (Some (Pair b)) p rest text bytes q h e a = h Between a.0 (before_bad b (rest Between) q e) a.2
+step_breaks None p rest text bytes q h e a = a
 
 breaks : (s : Standing) (p : ℕ) (text : List ℕ) (q : ℕ) → reading_from s p text ≡ bad q → q < 4096 → q < p + length text → (more bytes : List ℕ) → Left s (take (q + 1 - p) text ++ more) bytes → ⊥
 breaks s p [] q e below inside more bytes l = omega (arith, end_bad s p q e)
@@ -197,7 +189,7 @@ fault_told text p e =
                   | inl below ↦ inr (inr (inside, λ g. breaks Between 0 text p e below (omega arith) g.0 g.1 (subst (λ k. Spells (take k text ++ g.0) g.1) next-too g.2)))
                   | inr long ↦ inl (omega arith, omega arith)
                 ]
-            | inr over ↦ inr (inl (omega arith, λ bytes sp. not_both bytes p (sym (reads Between 0 text bytes sp (omega arith)) ∙ e)))
+            | inr over ↦ inr (inl (omega arith, λ bytes sp. cc (reads Between 0 text bytes sp (omega arith))))
           ];
     }
 

@@ -1,25 +1,19 @@
 -- Pairs with a space after each, and the line that they become. Assumes nothing.
-use Rattle.std.proofs.Common.{◌≡◌, ℕ, suc, ◌+◌, ◌-◌, ◌*◌, ◌/◌, ◌%◌, ◌<◌, ◌≤◌, List, [], ◌∷◌, ◌++◌, length, get_or, take, drop, set, sym, refl, ap, ◌∙◌, append_assoc, arith}
-use Rattle.std.proofs.lemmas.List.{take_more, length-take-le, length_push, set-append_left, nil_from_length}
-use Rattle.hexadecimal.specs.Lines.{digit_char, line, spaced}
+use Rattle.std.proofs.Common.{◌≡◌, ℕ, suc, ◌+◌, ◌-◌, ◌*◌, ◌/◌, ◌%◌, ◌<◌, List, [], ◌∷◌, ◌++◌, length, get_or, take, drop, set, sym, refl, ap, ◌∙◌, append_assoc, arith, length-append}
+use borrow.Rule.Slice.PartMut.{put_mid}
+use Rattle.std.proofs.lemmas.List.{take_more, length-take-le, set-append_left, take_at, drop_at, drop-drop}
+use Rattle.std.proofs.lemmas.List.Concat.{flat_map-append}
+use Rattle.hexadecimal.specs.Lines.{digit_char, line, pair, spaced}
 use Rattle.hexadecimal.specs.Memory.{in_front}
-use Rattle.hexadecimal.proofs.Placing.{in_front_more}
 
 pub length_spaced : (bs : List ℕ) → length (spaced bs) ≡ 3 * length bs
 length_spaced [] = refl
 length_spaced (b ∷ bs) = let e = length_spaced bs in omega arith
 
-pub line_none : (bs : List ℕ) → length bs ≡ 0 → line bs ≡ 10 ∷ []
-line_none bs h = ap line (nil_from_length bs h)
-
 pub length_line : (bs : List ℕ) → 0 < length bs → length (line bs) ≡ 3 * length bs
 length_line [] h = absurd (omega arith)
 length_line (b ∷ []) h = refl
 length_line (b ∷ c ∷ cs) h = let e = length_line (c ∷ cs) (omega arith) in omega arith
-
-spaced_append : (xs ys : List ℕ) → spaced (xs ++ ys) ≡ spaced xs ++ spaced ys
-spaced_append [] ys = refl
-spaced_append (x ∷ xs) ys = ap (λ zs. digit_char (x / 16) ∷ digit_char (x % 16) ∷ 32 ∷ zs) (spaced_append xs ys)
 
 -- LF in place of the last space
 spaced_ended : (bs : List ℕ) (k : ℕ) → k + 1 ≡ 3 * length bs → set (spaced bs) k 10 ≡ line bs
@@ -35,18 +29,17 @@ line_in_front bs memory h =
     set-append_left (spaced bs) (drop (length (spaced bs)) memory) k 10 (omega (arith, length_spaced bs))
     ∙ (λ j. spaced_ended bs k (omega arith) j ++ drop ((length_spaced bs ∙ sym (length_line bs h)) j) memory)
 
-spaced_more : (bs : List ℕ) (i : ℕ) → i < length bs → spaced (take (i + 1) bs) ≡ spaced (take i bs) ++ (digit_char (get_or bs i 0 / 16) ∷ digit_char (get_or bs i 0 % 16) ∷ 32 ∷ [])
-spaced_more bs i h = ap spaced (take_more bs i 0 h) ∙ spaced_append (take i bs) (get_or bs i 0 ∷ [])
+-- one part more at the start of a memory
+in_front_more : (text memory part : List ℕ) (n k : ℕ) → length text ≡ n → length part ≡ k → put_mid n k (in_front text memory) part ≡ in_front (text ++ part) memory
+in_front_more text memory part n k e f =
+    let rest = drop (length text) memory in
+    (λ j. take_at text rest n e j ++ (part ++ drop k (drop_at text rest n e j)))
+    ∙ ap (λ left. text ++ (part ++ left)) (drop-drop k (length text) memory)
+    ∙ sym (append_assoc text part (drop (length text + k) memory))
+    ∙ ap (λ m. (text ++ part) ++ drop m memory) (omega (arith, length-append text part))
 
 -- the pair and the space of one byte more
-pub spaced_turn : (bs memory : List ℕ) (i x y : ℕ) → i < length bs → 3 * length bs ≤ length memory → x ≡ digit_char (get_or bs i 0 / 16) → y ≡ digit_char (get_or bs i 0 % 16) → set (set (set (in_front (spaced (take i bs)) memory) (3 * i) x) (3 * i + 1) y) (3 * i + 2) 32 ≡ in_front (spaced (take (i + 1) bs)) memory
-spaced_turn bs memory i x y h room ex ey =
-    let t = spaced (take i bs) in
-    let e : length t ≡ 3 * i = length_spaced (take i bs) ∙ ap (λ n. 3 * n) (length-take-le i bs (omega arith)) in
-    let one = in_front_more t memory x (3 * i) e (omega arith) in
-    let two = in_front_more (t ++ (x ∷ [])) memory y (3 * i + 1) (omega (arith, length_push t x)) (omega arith) in
-    let three = in_front_more ((t ++ (x ∷ [])) ++ (y ∷ [])) memory 32 (3 * i + 2) (omega (arith, length_push t x, length_push (t ++ (x ∷ [])) y)) (omega arith) in
-    ap (λ m. set (set m (3 * i + 1) y) (3 * i + 2) 32) one
-    ∙ ap (λ m. set m (3 * i + 2) 32) two
-    ∙ three
-    ∙ ap (λ text. in_front text memory) (simp append_assoc (λ j. t ++ (ex j ∷ ey j ∷ 32 ∷ [])) ∙ sym (spaced_more bs i h))
+pub spaced_turn : (bs memory part : List ℕ) (i k : ℕ) → i < length bs → k ≡ 3 → part ≡ pair (get_or bs i 0) → put_mid (3 * i) k (in_front (spaced (take i bs)) memory) part ≡ in_front (spaced (take (i + 1) bs)) memory
+spaced_turn bs memory part i k h three e =
+    in_front_more (spaced (take i bs)) memory part (3 * i) k (length_spaced (take i bs) ∙ ap (λ n. 3 * n) (length-take-le i bs (omega arith))) (ap length e ∙ sym three)
+    ∙ ap (λ text. in_front text memory) (ap (λ p. spaced (take i bs) ++ p) e ∙ sym (ap spaced (take_more bs i 0 h) ∙ flat_map-append pair (take i bs) (get_or bs i 0 ∷ [])))

@@ -1,13 +1,13 @@
 -- The rules for a text, as a grammar, and that a text is read by them. Assumes nothing.
 use Rattle.std.specs.Prelude.{◌≡◌, ℕ, ◌+◌, ◌*◌, ◌<◌, ◌≤◌, ◌⊎◌, List, [], ◌∷◌, ◌++◌, length, take, Ok, ◌≢◌}
+use Rattle.std.specs.List.{All}
 use Rattle.hexadecimal.specs.declared.symbols.Symbol.TheVariants.{Digit, Blank, LineEnd, Hash}
 use Rattle.hexadecimal.specs.Symbols.{symbol_of}
 use Rattle.hexadecimal.specs.Texts.{text_reading, bad}
 
 -- no CR or LF is among the characters
 abbrev pub OneLine : List ℕ → Type 0
-OneLine [] = Unit {0}
-OneLine (c ∷ cs) = (symbol_of c ≢ LineEnd) × OneLine cs
+OneLine text = All (λ c. symbol_of c ≢ LineEnd) text
 
 -- a text of some bytes, of any length: pairs of digits, and between pairs blanks, line ends, and remarks
 -- that run from a # to a line end or to the end of the text

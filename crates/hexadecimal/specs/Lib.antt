@@ -1,5 +1,4 @@
 pub mod Symbols
-pub mod Holdings
 pub mod Texts
 pub mod Steps
 pub mod Lines

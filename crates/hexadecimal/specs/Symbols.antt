@@ -1,5 +1,5 @@
 -- What a character of a text is, by its code. Assumes nothing.
-use Rattle.std.specs.Prelude.{ℕ, ◌+◌, ◌-◌, Bool, cond, ◌&&◌, ◌||◌, ◌==◌, nat_le}
+use Rattle.std.specs.Prelude.{ℕ, ◌+◌, ◌-◌, Bool, ◌&&◌, ◌||◌, ◌==◌, nat_le, if◌then◌else◌}
 use Rattle.hexadecimal.specs.declared.symbols.Symbol.{Symbol}
 use Rattle.hexadecimal.specs.declared.symbols.Symbol.TheVariants.{Digit, Blank, LineEnd, Hash, Other}
 
@@ -11,9 +11,10 @@ within first last c = nat_le first c && nat_le c last
 -- a space is 32, a tab 9, CR 13, LF 10, '#' 35
 abbrev pub symbol_of : ℕ → Symbol
 symbol_of c =
-    cond (within 48 57 c) (Digit (c - 48))
-    (cond (within 65 70 c) (Digit (c - 65 + 10))
-    (cond (within 97 102 c) (Digit (c - 97 + 10))
-    (cond (c == 32 || c == 9) Blank
-    (cond (c == 13 || c == 10) LineEnd
-    (cond (c == 35) Hash Other)))))
+    if within 48 57 c then Digit (c - 48)
+    else if within 65 70 c then Digit (c - 65 + 10)
+    else if within 97 102 c then Digit (c - 97 + 10)
+    else if c == 32 || c == 9 then Blank
+    else if c == 13 || c == 10 then LineEnd
+    else if c == 35 then Hash
+    else Other

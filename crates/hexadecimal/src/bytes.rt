@@ -1,14 +1,31 @@
-// The bytes that a text gives: at most half as many as the longest text has characters.
+//! The bytes of a text.
 ghost use Rattle.std.specs.Prelude.{◌≡◌, ◌≤◌, length};
 
-mod methods;
+use arrayvec::ArrayVec;
+use std::marker::Model;
 
+/// Half as many as the longest text has characters.
 pub const CAPACITY: usize = 2048;
 
 #[derive(Drop)]
 pub struct Bytes {
-    memory: [u8; CAPACITY],
-    len: usize,
-    ghost whole: { length memory ≡ 2048 },
-    ghost within: { len ≤ 2048 },
+    pub(crate) bytes: ArrayVec<u8, CAPACITY>,
+}
+
+impl Model for Bytes {
+    ghost use Rattle.std.specs.Prelude.{ℕ, List};
+
+    ghost Value = { List ℕ };
+
+    ghost view = { λ b. b.bytes.items };
+}
+
+impl Bytes {
+    /// The bytes, in the order of the text.
+    pub fn as_slice(&self) -> &[u8]
+        ensures value { result.now ≡ self.now }
+        ensures fits { length result.now ≤ CAPACITY }
+    {
+        self.bytes.as_slice()
+    }
 }

@@ -1,8 +1,8 @@
-// Bytes as text: what the programs read from people and print for them.
-//
-// A text has at most 4,096 characters, a character being a byte. Hexadecimal digits stand in pairs,
-// each pair a byte; blanks and line ends may stand between pairs, and a # there begins a remark that
-// ends with its line.
+//! Bytes as text: what the programs read from people and print for them.
+//!
+//! A text has at most 4,096 characters, a character being a byte. Hexadecimal digits stand in pairs,
+//! each pair a byte; blanks and line ends may stand between pairs, and a # there begins a remark that
+//! ends with its line.
 #![tactic(auto)]
 
 mod bytes;
@@ -16,7 +16,7 @@ mod symbols;
 pub use bytes::Bytes;
 pub use decimal::write_decimal;
 pub use lines::{NoRoom, write_line, write_text};
-pub use page::Page;
+pub use page::{PAGE_ROOM, Page};
 pub use printed::{Decimal, Line, Printed, Text};
 pub use reader::{BadText, read, read_overlong};
 pub use symbols::{Symbol, symbol_of};

@@ -1,15 +1,58 @@
-// A page of text that a program prints.
-ghost use Rattle.std.specs.Prelude.{◌≡◌, ◌≤◌, length};
+//! A page of text that a program prints.
+ghost use Rattle.std.specs.Prelude.{◌≡◌, ◌+◌, ◌<◌, ◌≤◌, [], ◌++◌, length, MatchResult};
+ghost use Rattle.hexadecimal.specs.Pages.{with_text, adding};
 
-mod methods;
+use crate::lines::NoRoom;
+use crate::printed::Printed;
+use std::marker::Model;
 
-// How many characters a page has room for.
+/// How many characters a page has room for.
 pub const PAGE_ROOM: usize = 32_768;
 
+/// An array and a length: `write` fills the free room, which an `ArrayVec` does not lend, so that with one
+/// each `add` would go by a second array of this size.
 #[derive(Drop)]
 pub struct Page {
     memory: [u8; PAGE_ROOM],
     len: usize,
-    ghost whole: { length memory ≡ 32768 },
-    ghost within: { len ≤ 32768 },
+}
+
+impl Model for Page {
+    ghost use Rattle.std.specs.Prelude.{ℕ, ◌≤◌, List, take};
+    ghost use Rattle.hexadecimal.specs.declared.page.TheConstants.{PAGE_ROOM};
+
+    ghost Value = { List ℕ };
+
+    ghost view = { λ p. take p.len p.memory };
+
+    ghost invariant = { λ p. p.len ≤ PAGE_ROOM };
+}
+
+impl Page {
+    pub fn blank() -> Page
+        ensures { result ≡ [] }
+    {
+        Page {
+            memory: [0; PAGE_ROOM],
+            len: 0,
+        }
+    }
+
+    /// What stands on the page.
+    pub fn as_slice(&self) -> &[u8]
+        ensures value { result.now ≡ self.now }
+        ensures fits { length result.now ≤ PAGE_ROOM }
+    {
+        &self.memory[..self.len]
+    }
+
+    /// Puts something behind what stands on the page, or leaves the page as it is.
+    pub fn add<P: Printed + Drop>(&mut self, what: P) -> Result<(), NoRoom>
+        ensures value { result ≡ adding tt PAGE_ROOM self.old (P.text what) }
+        ensures after { self.new ≡ with_text PAGE_ROOM self.old (P.text what) }
+        ensures cases { MatchResult result (λ _. self.new ≡ self.old ++ P.text what) (λ _. PAGE_ROOM < length self.old + length (P.text what)) }
+    {
+        self.len += what.write(&mut self.memory[self.len..])?;
+        Ok(())
+    }
 }

@@ -1,4 +1,4 @@
-// What can stand on a page, and the text that it is there.
+//! What can stand on a page, and the text that it is there.
 ghost use Rattle.std.specs.Prelude.{◌≡◌, ℕ, List, decimal};
 ghost use Rattle.hexadecimal.specs.Lines.{line};
 ghost use Rattle.hexadecimal.specs.Memory.{placed, placed_answer};
@@ -9,15 +9,15 @@ use super::lines::{NoRoom, write_line, write_text};
 pub trait Printed {
     ghost text: { Self → List ℕ };
 
-    // Writes the text at the start of the memory, and says how long it is. The rest of the memory stays,
-    // and all of it where the text has no room.
+    /// Writes the text at the start of the memory, and says how long it is. The rest of the memory stays,
+    /// and all of it where the text has no room.
     fn write(&self, memory: &mut [u8]) -> Result<usize, NoRoom>
         ensures value { result ≡ placed_answer (text self.now) memory.old }
         ensures after { memory.new ≡ placed (text self.now) memory.old };
 }
 
-// A text as it is.
-#[derive(Drop)]
+/// A text as it is.
+#[derive(Clone, Copy, Debug)]
 pub struct Text<'a>(pub &'a [u8]);
 
 impl Printed for Text<'_> {
@@ -28,8 +28,8 @@ impl Printed for Text<'_> {
     }
 }
 
-// The line that shows some bytes.
-#[derive(Drop)]
+/// The line that shows some bytes.
+#[derive(Clone, Copy, Debug)]
 pub struct Line<'a>(pub &'a [u8]);
 
 impl Printed for Line<'_> {
@@ -40,8 +40,8 @@ impl Printed for Line<'_> {
     }
 }
 
-// A number, in decimal digits.
-#[derive(Drop)]
+/// A number, in decimal digits.
+#[derive(Clone, Copy, Debug)]
 pub struct Decimal(pub usize);
 
 impl Printed for Decimal {

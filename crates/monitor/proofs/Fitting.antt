@@ -1,14 +1,11 @@
 -- What the monitor prints fits a page: lines are at most three times as long as the stream. Assumes nothing.
-use Rattle.std.proofs.Common.{◌≡◌, ℕ, ◌+◌, ◌*◌, ◌^◌, ◌<◌, ◌≤◌, true, false, cond, eqb, List, [], ◌∷◌, ◌++◌, length, is_ok, Some, None, Ok, Err, codes, decimal, Option, Result, sym, refl, ap, ◌∙◌, append_assoc, arith, length-append, MatchResult}
+use Rattle.std.proofs.Common.{◌≡◌, ℕ, ◌+◌, ◌*◌, ◌^◌, ◌<◌, ◌≤◌, true, false, cond, eqb, List, [], ◌∷◌, ◌++◌, length, Some, None, codes, decimal, Option, refl, ap, ◌∙◌, arith, length-append}
 use Rattle.std.proofs.lemmas.Fmt.{length-decimal-le}
+use Rattle.std.proofs.lemmas.List.Concat.{flat_map-append}
 use Rattle.framing.specs.Frames.{stretches, body_of, IsBody, frame_in, frames_in, sound, sound_frames}
 use Rattle.framing.proofs.Bodies.{bodies_follow_last_pairs}
 use Rattle.hexadecimal.specs.Lines.{line}
 use Rattle.monitor.specs.Reports.{frame_lines, count_line, listing}
-
-pub lines_append : (fs gs : List (List ℕ)) → frame_lines (fs ++ gs) ≡ frame_lines fs ++ frame_lines gs
-lines_append [] gs = refl
-lines_append (f ∷ fs) gs = ap (λ l. line f ++ l) (lines_append fs gs) ∙ sym (append_assoc (line f) (frame_lines fs) (frame_lines gs))
 
 line_length : (bs : List ℕ) → length (line bs) ≤ 3 * length bs + 1
 line_length [] = omega arith
@@ -35,7 +32,7 @@ stretches_length kept (b ∷ bs) =
         arith,
         stretch_length kept,
         stretches_length [] bs,
-        ap length (lines_append (frame_in (body_of kept)) (frames_in (stretches [] bs))),
+        ap length (flat_map-append line (frame_in (body_of kept)) (frames_in (stretches [] bs))),
         length-append (frame_lines (frame_in (body_of kept))) (frame_lines (frames_in (stretches [] bs))),
       )
       | false ↦ omega (arith, stretches_length (kept ++ (b ∷ [])) bs, length-append kept (b ∷ []))
@@ -64,8 +61,8 @@ count_length word n h =
     )
 
 -- a page has room for what is printed of so few bytes
-pub listing_fits : (stream : List ℕ) → length stream ≤ 2048 → 32768 < length (listing (sound_frames stream)) → ⊥
-listing_fits stream few over =
+pub listing_fits : (stream : List ℕ) → length stream ≤ 2048 → length (listing (sound_frames stream)) ≤ 32768
+listing_fits stream few =
     let frames = sound_frames stream in
     let many = frames_few [] stream in
     omega (
@@ -76,11 +73,5 @@ listing_fits stream few over =
     )
 
 -- and for a position
-pub position_fits : (before : List ℕ) (p : ℕ) → before ≡ [] → p < 2 ^ 64 → 32768 < length (before ++ count_line (codes "BAD ") p) → ⊥
-position_fits before p none h over =
-    omega (arith, ap length none, length-append before (count_line (codes "BAD ") p), count_length (codes "BAD ") p h)
-
--- an answer that cannot be a refusal
-pub ok_unless : {X Y : Type 0} (r : Result X Y) (P : X → Type 0) (Q : Type 0) → MatchResult r P (λ _. Q) → (Q → ⊥) → is_ok r ≡ true
-ok_unless (Ok x) P Q h n = refl
-ok_unless (Err y) P Q h n = absurd (n h)
+pub position_fits : (p : ℕ) → p < 2 ^ 64 → length (count_line (codes "BAD ") p) ≤ 32768
+position_fits p h = omega (arith, count_length (codes "BAD ") p h)

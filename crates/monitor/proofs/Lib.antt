@@ -1,2 +1,4 @@
 pub mod Fitting
 pub mod Listing
+pub mod Reporting
+pub mod Filling

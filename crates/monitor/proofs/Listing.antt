@@ -1,16 +1,8 @@
 -- A page that fills up with the lines of a stream's frames. Assumes nothing.
-use Rattle.std.proofs.Common.{◌≡◌, ℕ, ◌+◌, ◌<◌, List, [], ◌∷◌, ◌++◌, length, codes, decimal, sym, ap, ◌∙◌, append_assoc, arith, length-append}
+use Rattle.std.proofs.Common.{◌≡◌, ℕ, ◌+◌, ◌<◌, List, [], ◌∷◌, ◌++◌, length, codes, sym, ap, ◌∙◌, append_assoc, arith, length-append}
 use Rattle.std.proofs.lemmas.List.{append-nil}
 use Rattle.hexadecimal.specs.Lines.{line}
 use Rattle.monitor.specs.Reports.{frame_lines, count_line, listing}
-
--- a word, the digits of a number and LF, one after the other
-pub count_joined : (page word : List ℕ) (n : ℕ) (one two three : List ℕ) → one ≡ page ++ word → two ≡ one ++ decimal n → three ≡ two ++ (10 ∷ []) → three ≡ page ++ count_line word n
-count_joined page word n one two three e f g =
-    g
-    ∙ ap (λ l. l ++ (10 ∷ [])) (f ∙ ap (λ l. l ++ decimal n) e)
-    ∙ append_assoc (page ++ word) (decimal n) (10 ∷ [])
-    ∙ append_assoc page word (decimal n ++ (10 ∷ []))
 
 -- some lines stand on the page, and the first of the frames that are left comes next
 module _ (page body : List ℕ) (frames more : List (List ℕ)) (all : List ℕ) (next : frames ≡ body ∷ more) (so_far : page ++ frame_lines frames ≡ all) where

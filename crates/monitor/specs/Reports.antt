@@ -1,7 +1,10 @@
 -- What the monitor prints of a text. Assumes nothing.
-use Rattle.std.specs.Prelude.{ℕ, Bool, cond, List, [], ◌∷◌, ◌++◌, length, Ok, Err, codes, decimal}
+use Rattle.std.specs.Prelude.{◌≡◌, ℕ, List, [], ◌∷◌, ◌++◌, length, Ok, Err, codes, decimal}
+use Rattle.std.specs.List.{flat_map}
 use Rattle.framing.specs.Frames.{sound_frames}
 use Rattle.hexadecimal.specs.Lines.{line}
+use Rattle.monitor.specs.declared.report.Given.{Given}
+use Rattle.monitor.specs.declared.report.Given.TheVariants.{Whole, Cut}
 use Rattle.hexadecimal.specs.Texts.{Reading, text_reading, overlong}
 
 -- a word with a space after it, a number, and LF
@@ -10,8 +13,7 @@ count_line word n = word ++ (decimal n ++ (10 ∷ []))
 
 -- a line for each frame
 abbrev pub frame_lines : List (List ℕ) → List ℕ
-frame_lines [] = []
-frame_lines (f ∷ fs) = line f ++ frame_lines fs
+frame_lines frames = flat_map line frames
 
 -- the frames, and how many there are
 abbrev pub listing : List (List ℕ) → List ℕ
@@ -25,6 +27,12 @@ report_of (Err bad) = count_line (codes "BAD ") bad.position
 abbrev pub text_report : List ℕ → List ℕ
 text_report text = report_of (text_reading text)
 
--- the reading of a text that ends, and of 4,096 characters after which it goes on
-abbrev pub reading_of : List ℕ → Bool → Reading
-reading_of text goes_on = cond goes_on (Err (overlong (text_reading text))) (text_reading text)
+-- the reading of a whole text, and of 4,096 characters after which it goes on
+abbrev pub reading_of : Given → Reading
+reading_of (Whole text) = text_reading text.now
+reading_of (Cut text) = Err (overlong (text_reading text.now))
+
+-- a page that reports the text that was given, whatever follows where it is cut
+abbrev pub Reports : Given → List ℕ → Type 0
+Reports (Whole text) page = page ≡ text_report text.now
+Reports (Cut text) page = length text.now ≡ 4096 → (c : ℕ) (more : List ℕ) → page ≡ text_report (text.now ++ (c ∷ more))

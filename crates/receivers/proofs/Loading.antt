@@ -1,14 +1,15 @@
 -- The relations of plans, and the definitions, agree.
-use Rattle.std.proofs.Common.{◌≡◌, ℕ, ◌-◌, ◌/◌, ◌<◌, ◌≤◌, Bool, true, false, cond, leb, List, length, Some, None, Ok, Err, Option, Result, sym, refl, ap, ◌∙◌, subst, mul_comm, mul-le-mul_left, arith}
+use Rattle.std.proofs.Common.{◌≡◌, ℕ, option_map, ◌-◌, ◌/◌, ◌<◌, ◌≤◌, Bool, true, false, cond, leb, List, length, Some, None, Ok, Err, Option, Result, sym, refl, ap, ◌∙◌, subst, mul_comm, mul-le-mul_left, arith}
 use Rattle.std.proofs.lemmas.Nat.{le-div}
 use Rattle.std.proofs.lemmas.List.FromFn.{length-map-range_with_len}
+use Rattle.std.proofs.lemmas.List.Quantifiers.{position-Some}
 use Rattle.std.proofs.lemmas.Bool.{and_parts, leb-true}
 use Rattle.commands.specs.Settings.{between}
 use Rattle.receivers.specs.declared.rejections.Rejection.{Rejection}
 use Rattle.receivers.specs.declared.rejections.Rejection.TheVariants.{SetUp, PlanLength, PlanRaster, PlanBlock}
-use Rattle.receivers.specs.Blocks.{InOrder, block_at, first_misplaced, inside, misplaced}
+use Rattle.receivers.specs.Blocks.{InOrder, block_at, first_misplaced, inside, misplaced, no_block}
 use Rattle.receivers.specs.Plans.{Plan, block_count, block_of, blocks_of, counted, ordered, plan_of, unless, word}
-use Rattle.receivers.specs.Rasters.{channel_in, frequency_of, raster_taking, tuned_to, channel_at}
+use Rattle.receivers.specs.Rasters.{channel_in, frequency_of, raster_taking, tuned_to}
 use Rattle.receivers.specs.Loading.{ChannelOf, HighestChannel, Rejected, RejectedByCauses, TunedByPlans}
 use Rattle.receivers.specs.Firsts.{first_found, first_is, none_passes}
 use Rattle.receivers.specs.RasterLaws.{around_is, channel_below, channel_found, inside_bounds, tuned_kept}
@@ -68,7 +69,7 @@ module _ (p : Plan) (step : 0 < p.raster) where
   tuned_highest n w e =
       let (c, found, f) = tuned_kept p n w e in
       let (around, same) = channel_found p n c found in
-      let (l, i, before) = first_found (inside n p.blocks) (length p.blocks) c.block around in
+      let (l, i, before) = position-Some (inside n) p.blocks c.block no_block around in
       let b = inside_bounds p n c.block i in
       let g : frequency_of p (channel_in p c.block n) ≡ w = ap (frequency_of p) (sym same) ∙ f in
       (c.block, (l, (i, ((c.number, sym f), (subst (λ x. x ≤ n) g (channel_below p n c.block b.0), λ v a h. subst (λ x. v ≤ x) g (highest c.block n v b.0 a h))))))
@@ -80,7 +81,7 @@ module _ (p : Plan) (step : 0 < p.raster) where
       let up : w ≤ f = highest k n w b.0 a h in
       let down : f ≤ w = top f ((channel_in p k n).number, refl) (channel_below p n k b.0) in
       let same : f ≡ w = omega (arith, up, down) in
-      ap (λ x. tuned_to p (channel_at p n x)) (around_is p o n k l i) ∙ ap Ok same
+      ap (λ x. tuned_to p (option_map (λ k. channel_in p k n) x)) (around_is p o n k l i) ∙ ap Ok same
 
 pub tuned_by_plans : TunedByPlans
 tuned_by_plans bytes p e n w =

@@ -1,24 +1,19 @@
 -- Blocks of channels, and where they stand wrong. Assumes nothing.
-use Rattle.std.specs.Prelude.{◌≡◌, ℕ, zero, suc, ◌-◌, ◌<◌, ◌≤◌, Bool, false, cond, ◌&&◌, ◌||◌, List, length, Some, None, Option, nat_le, nat_lt, slice_index_or}
+use Rattle.std.specs.Prelude.{◌≡◌, ℕ, ◌-◌, ◌<◌, ◌≤◌, Bool, false, ◌&&◌, ◌||◌, List, length, Option, nat_le, nat_lt, slice_index_or}
+use Rattle.std.specs.List.{find, range_with_len}
 use Rattle.commands.specs.Settings.{between}
 use Rattle.receivers.specs.declared.blocks.Block.{Block}
 
--- the first number below n that passes a test
-abbrev pub or_else : Option ℕ → Option ℕ → Option ℕ
-or_else (Some k) o = Some k
-or_else None o = o
+-- the block at a place, and what stands behind the last one
+abbrev pub no_block : Block
+no_block = record { first = 0; last = 0 }
 
-abbrev pub first_below : (ℕ → Bool) → ℕ → Option ℕ
-first_below p zero = None
-first_below p (suc n) = or_else (first_below p n) (cond (p n) (Some n) None)
-
--- the block at a place
 abbrev pub block_at : List Block → ℕ → Block
-block_at blocks k = slice_index_or blocks k (record { first = 0; last = 0 })
+block_at blocks k = slice_index_or blocks k no_block
 
 -- a frequency is inside a block
-abbrev pub inside : ℕ → List Block → ℕ → Bool
-inside frequency blocks k = between (block_at blocks k).first (block_at blocks k).last frequency
+abbrev pub inside : ℕ → Block → Bool
+inside frequency block = between block.first block.last frequency
 
 -- a block ends before it begins, or does not begin behind the block before it
 abbrev pub misplaced : List Block → ℕ → Bool
@@ -27,7 +22,7 @@ misplaced blocks k =
     (nat_lt 0 k && nat_le (block_at blocks k).first (block_at blocks (k - 1)).last)
 
 abbrev pub first_misplaced : List Block → Option ℕ
-first_misplaced blocks = first_below (misplaced blocks) (length blocks)
+first_misplaced blocks = find (misplaced blocks) (range_with_len 0 (length blocks))
 
 -- no block is misplaced
 abbrev pub InOrder : List Block → Type 0

@@ -1,58 +1,72 @@
--- The first number below another that passes a test.
-use Rattle.std.specs.Prelude.{◌≡◌, ℕ, zero, suc, ◌<◌, Bool, true, false, cond, Some, None, Option, refl}
-use Rattle.std.proofs.Common.{ap, sym, subst, ◌∙◌, inl, inr, arith}
+-- The first item that passes a test, and the first number below another.
+use Rattle.std.specs.Prelude.{◌≡◌, ℕ, ◌<◌, Bool, true, false, List, length, position, Some, None, Option, refl, suc}
+use Rattle.std.specs.List.{find, position_or_len, range_with_len}
+use Rattle.std.proofs.Common.{◌∙◌, sym, inl, inr, arith, get_or}
 use Rattle.std.proofs.lemmas.Bool.{cases_lt}
-use Rattle.receivers.specs.Blocks.{first_below, or_else}
+use Rattle.std.proofs.lemmas.Bool.Decides.{nat_tests}
+use Rattle.std.proofs.lemmas.List.Folds.{find_at}
+use Rattle.std.proofs.lemmas.List.FromFn.{get_or-range_with_len, length-range_with_len}
+use Rattle.std.proofs.lemmas.List.Quantifiers.{position-Some}
+use Rattle.std.proofs.lemmas.List.Sums.{fails_before_first, position_or_len_is}
+use Rattle.std.proofs.lemmas.Option.{slice_get_cases}
+
+module _ {X : Type 0} (p : X → Bool) (xs : List X) where
+  pub position-None : (d : X) → position p xs ≡ None → (k : ℕ) → k < length xs → p (get_or xs k d) ≡ false
+  position-None d e k h =
+      let f = fails_before_first p xs k d in
+      grind (arith, nat_tests)
+
+  pub position_is : (k : ℕ) (d : X) → k < length xs → p (get_or xs k d) ≡ true → ((j : ℕ) → j < k → p (get_or xs j d) ≡ false) → position p xs ≡ Some k
+  position_is k d h e before =
+      let q = position_or_len_is p xs k d (omega arith) before (λ l. e) in
+      grind (arith, nat_tests)
 
 module _ (p : ℕ → Bool) where
+  -- no number below another passes
   abbrev pub FailsBelow : ℕ → Type 0
-  FailsBelow n = (j : ℕ) → j < n → p j ≡ false
+  FailsBelow k = (j : ℕ) → j < k → p j ≡ false
 
   pub fails_more : (n : ℕ) → FailsBelow n → p n ≡ false → FailsBelow (suc n)
   fails_more n h e j l =
       elim (cases_lt j n) [ inl b ↦ h j b | inr b ↦ let q : j ≡ n = omega arith in rw q e ]
 
-  pub first_fails : (n : ℕ) → FailsBelow n → first_below p n ≡ None
-  first_fails zero h = refl
-  first_fails (suc n) h =
-      let a = first_fails n (λ j l. h j (omega arith)) in
-      let b = h n (omega arith) in
-      rw (a, b)
+module _ (p : ℕ → Bool) (n : ℕ) where
+  -- of the numbers from 0 on, each is its own place
+  find-position : find p (range_with_len 0 n) ≡ position p (range_with_len 0 n)
+  find-position =
+      let xs = range_with_len 0 n in
+      let i = position_or_len p xs in
+      let e = find_at p xs in
+      let c = slice_get_cases xs i in
+      let l = length-range_with_len 0 n in
+      let g = get_or-range_with_len 0 n i in
+      grind (arith, nat_tests)
 
-  pub first_is : (n k : ℕ) → k < n → p k ≡ true → FailsBelow k → first_below p n ≡ Some k
-  first_is zero k l e h = absurd (omega arith)
-  first_is (suc n) k l e h =
-      elim (cases_lt k n) [
-        | inl b ↦ let a = first_is n k b e h in rw a
-        | inr b ↦
-            let q : k ≡ n = omega arith in
-            let a = first_fails n (subst FailsBelow q h) in
-            let t : p n ≡ true = subst (λ j. p j ≡ true) q e in
-            rw (a, t) (ap Some (sym q))
-      ]
+  -- the number at a place
+  at_place : (k : ℕ) → k < n → get_or (range_with_len 0 n) k 0 ≡ k
+  at_place k h = omega (arith, get_or-range_with_len 0 n k 0 h)
 
-  pub none_passes : (n : ℕ) → first_below p n ≡ None → FailsBelow n
-  none_passes zero e = λ j l. absurd (omega arith)
-  none_passes (suc n) e = at (first_below p n) refl (p n) refl e (none_passes n)
+  pub first_found : (k : ℕ) → find p (range_with_len 0 n) ≡ Some k → (k < n) × (p k ≡ true) × FailsBelow p k
+  first_found k e =
+      let (l, t, before) = position-Some p (range_with_len 0 n) k 0 (sym find-position ∙ e) in
+      let h : k < n = omega (arith, l, length-range_with_len 0 n) in
+      (h, rw (at_place k h) at t, λ j b. rw (at_place j (omega arith)) at (before j b))
+
+  pub none_passes : find p (range_with_len 0 n) ≡ None → FailsBelow p n
+  none_passes e j h =
+      rw (at_place j h) at (position-None p (range_with_len 0 n) 0 (sym find-position ∙ e) j (omega (arith, length-range_with_len 0 n)))
+
+  pub first_is : (k : ℕ) → k < n → p k ≡ true → FailsBelow p k → find p (range_with_len 0 n) ≡ Some k
+  first_is k h t before =
+      find-position
+      ∙ position_is p (range_with_len 0 n) k 0 (omega (arith, length-range_with_len 0 n)) (rw (at_place k h) t) (λ j b. rw (at_place j (omega arith)) (before j b))
+
+  pub first_fails : FailsBelow p n → find p (range_with_len 0 n) ≡ None
+  first_fails h = at (find p (range_with_len 0 n)) refl
     where
-      at : (o : Option ℕ) → first_below p n ≡ o → (b : Bool) → p n ≡ b → or_else o (cond b (Some n) None) ≡ None → (first_below p n ≡ None → FailsBelow n) → FailsBelow (suc n)
-      at (Some k) f b q e again = absurd (grind arith)
-      at None f true q e again = absurd (grind arith)
-      at None f false q e again = fails_more n (again f) q
-
-  abbrev pub First : ℕ → ℕ → Type 0
-  First n k = (k < n) × (p k ≡ true) × FailsBelow k
-
-  pub first_found : (n k : ℕ) → first_below p n ≡ Some k → First n k
-  first_found zero k e = absurd (grind arith)
-  first_found (suc n) k e = at (first_below p n) refl (p n) refl e (first_found n)
-    where
-      at : (o : Option ℕ) → first_below p n ≡ o → (b : Bool) → p n ≡ b → or_else o (cond b (Some n) None) ≡ Some k → ((j : ℕ) → first_below p n ≡ Some j → First n j) → First (suc n) k
-      at (Some j) f b q e again =
-          let same : j ≡ k = cc in
-          let r = again k (f ∙ ap Some same) in
-          (omega (arith, r.0), r.1, r.2)
-      at None f true q e again =
-          let same : n ≡ k = cc in
-          (omega arith, subst (λ j. p j ≡ true) same q, subst FailsBelow same (none_passes n f))
-      at None f false q e again = absurd (grind arith)
+      at : (o : Option ℕ) → find p (range_with_len 0 n) ≡ o → o ≡ None
+      at None e = refl
+      at (Some k) e =
+          let q = first_found k e in
+          let no = h k q.0 in
+          absurd (grind arith)

@@ -10,7 +10,7 @@ use Rattle.receivers.specs.Refusals.{further}
 use Rattle.receivers.specs.Meaning.{Taking, Meaning, Lawful}
 use Rattle.receivers.specs.Layers.{beneath, layer}
 use Rattle.receivers.specs.Fences.{fence, fenced, kept_inside, read_inside}
-use Rattle.receivers.specs.Converters.{convert, converted, lifted, or_refused, raised, ranged, tried}
+use Rattle.receivers.specs.Converters.{convert, converted, lifted, raised, ranged, tried}
 use Rattle.receivers.specs.Frequencies.{frequency_lawful, lawful_frequency}
 
 beneath_kept : (w : ℕ) (t : Taking) → beneath t ≡ Ok w → t ≡ Ok w
@@ -81,13 +81,9 @@ ranged_some : (z : ℤ) (n : ℕ) → ranged z ≡ Some n → (z ≡ pos n) × (
 ranged_some (pos m) n e = (grind (arith, nat_tests), grind (arith, nat_tests))
 ranged_some (negsuc m) n e = absurd (grind arith)
 
-or_refused_kept : (o : Option ℕ) (w : ℕ) → or_refused o ≡ Ok w → o ≡ Some w
-or_refused_kept (Some v) w e = grind arith
-or_refused_kept None w e = absurd (grind arith)
-
 module _ (shift : ℤ) where
   raised_kept : (t : Taking) (w : ℕ) → raised shift t ≡ Ok w → (k : ℕ) × (t ≡ Ok k) × (ranged (pos k +ℤ shift) ≡ Some w)
-  raised_kept (Ok k) w e = (k, refl, or_refused_kept (ranged (pos k +ℤ shift)) w e)
+  raised_kept (Ok k) w e = (k, refl, grind arith)
   raised_kept (Err refusal) w e = absurd (grind arith)
 
   tried_kept : (t : ℕ → Taking) (o : Option ℕ) (w : ℕ) → tried shift t o ≡ Ok w → (u k : ℕ) × (t u ≡ Ok k) × (ranged (pos k +ℤ shift) ≡ Some w)

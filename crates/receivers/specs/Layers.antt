@@ -1,5 +1,5 @@
 -- Layers over a receiver: they have frequencies of their own, and pass the other settings on. Assumes nothing.
-use Rattle.std.specs.Prelude.{ℕ, cond, Ok, Err, Option, ◌==◌}
+use Rattle.std.specs.Prelude.{ℕ, Ok, Err, Option, ◌==◌, if◌then◌else◌}
 use Rattle.receivers.specs.Refusals.{deeper}
 use Rattle.receivers.specs.Meaning.{Meaning, Taking, changed}
 
@@ -12,8 +12,8 @@ beneath (Err refusal) = Err (deeper refusal)
 abbrev pub layer : ((ℕ → Taking) → ℕ → Taking) → (Option ℕ → Option ℕ) → Meaning → Meaning
 layer takes reads m =
     record {
-      reading = λ s. cond (s == 0) (reads (m.reading s)) (m.reading s);
-      taking = λ s n. cond (s == 0) (takes (m.taking s) n) (beneath (m.taking s n));
+      reading = λ s. if s == 0 then reads (m.reading s) else m.reading s;
+      taking = λ s n. if s == 0 then takes (m.taking s) n else beneath (m.taking s n);
     }
 
 -- what the receiver below means once a number was tried on the layer: it was set below only if the layer took it

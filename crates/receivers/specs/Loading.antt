@@ -29,7 +29,7 @@ ChannelOf p k w = (i : ℕ) × (w ≡ (block_at p.blocks k).first + p.raster * i
 -- the highest channel not above a frequency, of the block that the frequency is inside
 abbrev pub HighestChannel : Plan → ℕ → ℕ → Type 0
 HighestChannel p n w =
-    (k : ℕ) × ((k < length p.blocks) × ((inside n p.blocks k ≡ true) × (ChannelOf p k w × ((w ≤ n) × ((v : ℕ) → ChannelOf p k v → v ≤ n → v ≤ w)))))
+    (k : ℕ) × ((k < length p.blocks) × ((inside n (block_at p.blocks k) ≡ true) × (ChannelOf p k w × ((w ≤ n) × ((v : ℕ) → ChannelOf p k v → v ≤ n → v ≤ w)))))
 
 -- a frequency is taken just as that channel, by every plan that can be loaded
 abbrev pub TunedByPlans : Type 0

@@ -1,5 +1,5 @@
 -- What a receiver means: its reading, its taking, and the three laws of both. Assumes nothing.
-use Rattle.std.specs.Prelude.{◌≡◌, ℕ, ◌<◌, true, cond, Some, Ok, Err, Option, Result, ◌==◌}
+use Rattle.std.specs.Prelude.{◌≡◌, ℕ, ◌<◌, true, Some, Ok, Err, Option, Result, ◌==◌, if◌then◌else◌}
 use Rattle.commands.specs.Settings.{lawful}
 use Rattle.receivers.specs.declared.refusals.Refusal.{Refusal}
 use Rattle.receivers.specs.declared.refusals.Refusal.TheVariants.{NotFitted, NotTaken}
@@ -35,7 +35,7 @@ pub record Lawful (m : Meaning) : Type 0 where
 
 -- the readings once a number of a setting was taken, or refused
 abbrev pub readings_after : Taking → ℕ → (ℕ → Option ℕ) → ℕ → Option ℕ
-readings_after (Ok w) s f k = cond (k == s) (Some w) (f k)
+readings_after (Ok w) s f k = if k == s then Some w else f k
 readings_after (Err refusal) s f k = f k
 
 -- what a receiver means once a number was set
@@ -44,4 +44,4 @@ changed s n m = record { reading = readings_after (m.taking s n) s m.reading; ta
 
 -- what becomes of a number of a setting that takes all its lawful numbers, each as itself
 abbrev pub plainly : ℕ → ℕ → Taking
-plainly s n = cond (lawful s n) (Ok n) (Err (NotTaken 1))
+plainly s n = if lawful s n then Ok n else Err (NotTaken 1)

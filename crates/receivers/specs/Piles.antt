@@ -5,7 +5,6 @@ use Rattle.receivers.specs.declared.fence.Fence.{Fence}
 use Rattle.receivers.specs.declared.converter.Converter.{Converter}
 use Rattle.receivers.specs.Meaning.{Meaning}
 use Rattle.receivers.specs.Tables.{table}
-use Rattle.receivers.specs.Plans.{laid}
 use Rattle.receivers.specs.Rasters.{raster}
 use Rattle.receivers.specs.Fences.{fence}
 use Rattle.receivers.specs.Converters.{convert}
@@ -14,7 +13,7 @@ abbrev pub table_means : TableReceiver → Meaning
 table_means t = table t.coverage t.numbers
 
 abbrev pub raster_means : RasterReceiver → Meaning
-raster_means r = raster (laid r.plan) r.channel r.gain r.squelch
+raster_means r = raster r.plan r.channel r.gain r.squelch
 
 abbrev pub fence_means : {R : Type 0} → (R → Meaning) → Fence R → Meaning
 fence_means m f = fence f.low f.high (m f.below)

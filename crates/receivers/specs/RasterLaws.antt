@@ -1,20 +1,19 @@
 -- A raster receiver is lawful, whatever plan was loaded and whatever was set.
-use Rattle.std.specs.Prelude.{◌≡◌, ℕ, zero, suc, ◌-◌, ◌*◌, ◌/◌, ◌<◌, ◌≤◌, Bool, true, false, cond, ◌||◌, length, Some, None, Ok, Err, Option, ◌==◌, nat_eq, refl}
+use Rattle.std.specs.Prelude.{◌≡◌, ℕ, option_map, zero, suc, ◌-◌, ◌*◌, ◌/◌, ◌<◌, ◌≤◌, Bool, true, false, cond, ◌||◌, length, Some, None, Ok, Err, Option, ◌==◌, nat_eq, refl}
 use Rattle.std.proofs.Common.{sym, ap, subst, ◌∙◌, inl, inr, arith}
 use Rattle.std.proofs.Math.Path.{fun_ext}
 use Rattle.std.proofs.Math.Nat.{mul-div-le, mul-div_right}
-use Rattle.std.proofs.lemmas.List.{length-take}
 use Rattle.std.proofs.lemmas.Bool.Decides.{nat_tests}
+use Rattle.std.proofs.lemmas.List.Quantifiers.{position-Some}
 use Rattle.std.proofs.lemmas.Bool.{cases_lt, eqb-true, le-leb, or_cases}
 use Rattle.commands.specs.Settings.{lawful}
 use Rattle.receivers.specs.declared.plan.Channel.{Channel}
-use Rattle.receivers.specs.declared.plan.ChannelPlan.{ChannelPlan}
 use Rattle.receivers.specs.declared.refusals.Refusal.TheVariants.{NotFitted, NotTaken}
 use Rattle.receivers.specs.Meaning.{Lawful, plainly}
-use Rattle.receivers.specs.Blocks.{InOrder, Reachable, block_at, inside}
-use Rattle.receivers.specs.Plans.{Plan, laid}
-use Rattle.receivers.specs.Rasters.{block_around, channel_at, channel_in, channel_of, first_channel, frequency_of, loaded, raster, raster_taking, tuned_to}
-use Rattle.receivers.specs.Firsts.{first_is, first_found}
+use Rattle.receivers.specs.Blocks.{InOrder, Reachable, block_at, inside, no_block}
+use Rattle.receivers.specs.Plans.{Plan}
+use Rattle.receivers.specs.Rasters.{InBlock, block_around, channel_in, channel_of, first_channel, frequency_of, loaded, raster, raster_taking, tuned_to}
+use Rattle.receivers.specs.Firsts.{position_is}
 use Rattle.receivers.specs.Frequencies.{frequency_lawful}
 
 -- the two levels take their lawful numbers, each as itself
@@ -37,33 +36,35 @@ level_itself p s n z l h = (h, rw (z, l, h))
 
 -- the channel of a block that a frequency inside it is taken as
 module _ (p : Plan) where
-  -- where a channel is: in one of the blocks, and not above its end
-  abbrev pub InBlock : Channel → Type 0
-  InBlock c = (c.block < length p.blocks) × (frequency_of p c ≤ (block_at p.blocks c.block).last)
-
   pub channel_found : (n : ℕ) (c : Channel) → channel_of p n ≡ Some c → (block_around p n ≡ Some c.block) × (c ≡ channel_in p c.block n)
   channel_found n c e = at (block_around p n) refl e
     where
-      at : (o : Option ℕ) → block_around p n ≡ o → channel_at p n o ≡ Some c → (block_around p n ≡ Some c.block) × (c ≡ channel_in p c.block n)
+      at : (o : Option ℕ) → block_around p n ≡ o → option_map (λ k. channel_in p k n) o ≡ Some c → (block_around p n ≡ Some c.block) × (c ≡ channel_in p c.block n)
       at (Some k) b e =
           let same : channel_in p k n ≡ c = cc in
           let place : k ≡ c.block = ap (λ d. d.block) same in
           (b ∙ ap Some place, sym same ∙ ap (λ j. channel_in p j n) place)
       at None b e = absurd (grind arith)
 
-  pub inside_bounds : (n k : ℕ) → inside n p.blocks k ≡ true → ((block_at p.blocks k).first ≤ n) × (n ≤ (block_at p.blocks k).last)
+  pub inside_bounds : (n k : ℕ) → inside n (block_at p.blocks k) ≡ true → ((block_at p.blocks k).first ≤ n) × (n ≤ (block_at p.blocks k).last)
   inside_bounds n k h = (grind (arith, nat_tests), grind (arith, nat_tests))
+
+  -- the block that a frequency is inside
+  pub around_bounds : (n k : ℕ) → block_around p n ≡ Some k → (k < length p.blocks) × ((block_at p.blocks k).first ≤ n) × (n ≤ (block_at p.blocks k).last)
+  around_bounds n k e =
+      let f = position-Some (inside n) p.blocks k no_block e in
+      let b = inside_bounds n k f.1 in
+      (f.0, b.0, b.1)
 
   pub channel_below : (n k : ℕ) → (block_at p.blocks k).first ≤ n → frequency_of p (channel_in p k n) ≤ n
   channel_below n k h = omega (arith, mul-div-le (n - (block_at p.blocks k).first) p.raster)
 
-  pub found_in_block : (n : ℕ) (c : Channel) → channel_of p n ≡ Some c → InBlock c
+  pub found_in_block : (n : ℕ) (c : Channel) → channel_of p n ≡ Some c → InBlock p c
   found_in_block n c e =
       let q = channel_found n c e in
-      let f = first_found (inside n p.blocks) (length p.blocks) c.block q.0 in
-      let b = inside_bounds n c.block f.1 in
-      let l : frequency_of p c ≤ n = subst (λ d. frequency_of p d ≤ n) (sym q.1) (channel_below n c.block b.0) in
-      (f.0, omega (arith, l, b.1))
+      let (h, first, last) = around_bounds n c.block q.0 in
+      let l : frequency_of p c ≤ n = subst (λ d. frequency_of p d ≤ n) (sym q.1) (channel_below n c.block first) in
+      (h, omega (arith, l, last))
 
   pub tuned_kept : (n w : ℕ) → tuned_to p (channel_of p n) ≡ Ok w → (c : Channel) × (channel_of p n ≡ Some c) × (frequency_of p c ≡ w)
   tuned_kept n w e = at (channel_of p n) refl e
@@ -71,16 +72,6 @@ module _ (p : Plan) where
       at : (o : Option Channel) → channel_of p n ≡ o → tuned_to p o ≡ Ok w → (c : Channel) × (channel_of p n ≡ Some c) × (frequency_of p c ≡ w)
       at (Some c) o e = (c, o, cc)
       at None o e = absurd (grind arith)
-
--- the same of a plan as it is kept
-pub found_in_plan : (p : ChannelPlan) (n : ℕ) (c : Channel) → Some c ≡ channel_of (laid p) n → (c.block < p.count) × (frequency_of (laid p) c ≤ (block_at (laid p).blocks c.block).last)
-found_in_plan p n c e =
-    let b = found_in_block (laid p) n c (sym e) in
-    (omega (arith, b.0, length-take p.count p.blocks), b.1)
-
--- a channel as it is kept is in a block of the plan
-pub kept_in_block : (p : ChannelPlan) (c : Channel) → length p.blocks ≡ 16 → p.count ≤ 16 → c.block < p.count → frequency_of (laid p) c ≤ (block_at (laid p).blocks c.block).last → InBlock (laid p) c
-kept_in_block p c sixteen few there within = (omega (arith, length-take p.count p.blocks), within)
 
 -- a plan that is loaded leaves the levels
 pub load_leaves : (p q : Plan) (c : Channel) (gain squelch : ℕ) → raster p first_channel gain squelch ≡ loaded (Ok p) (raster q c gain squelch)
@@ -111,20 +102,20 @@ module _ (p : Plan) (ordered : InOrder p.blocks) where
       ]
 
   -- a frequency is inside one block at most
-  pub around_is : (n k : ℕ) → k < length p.blocks → inside n p.blocks k ≡ true → block_around p n ≡ Some k
+  pub around_is : (n k : ℕ) → k < length p.blocks → inside n (block_at p.blocks k) ≡ true → block_around p n ≡ Some k
   around_is n k h e =
-      first_is (inside n p.blocks) (length p.blocks) k h e (λ j l. let a = ascends j k l h in grind (arith, nat_tests))
+      position_is (inside n) p.blocks k no_block h e (λ j l. let a = ascends j k l h in grind (arith, nat_tests))
 
   module _ (step : 0 < p.raster) where
     -- the frequency of a channel is taken as itself
     pub channel_itself : (c : Channel) → InBlock p c → tuned_to p (channel_of p (frequency_of p c)) ≡ Ok (frequency_of p c)
     channel_itself c (h, l) =
         let f = frequency_of p c in
-        let i : inside f p.blocks c.block ≡ true = grind (arith, nat_tests) in
+        let i : inside f (block_at p.blocks c.block) ≡ true = grind (arith, nat_tests) in
         let a = around_is f c.block h i in
         let s : f - (block_at p.blocks c.block).first ≡ p.raster * c.number = omega arith in
         let d : channel_in p c.block f ≡ c = ap (λ x. record { block = c.block; number = x }) (ap (λ x. x / p.raster) s ∙ mul-div_right c.number step) in
-        ap (λ o. tuned_to p (channel_at p f o)) a ∙ ap (λ x. Ok (frequency_of p x)) d
+        ap (λ o. tuned_to p (option_map (λ k. channel_in p k f) o)) a ∙ ap (λ x. Ok (frequency_of p x)) d
 
     module _ (reachable : Reachable p.blocks) where
       itself : (s n : ℕ) → (s == 0) ≡ true → ((c : Channel) × InBlock p c × (frequency_of p c ≡ n)) → (lawful s n ≡ true) × (raster_taking p s n ≡ Ok n)

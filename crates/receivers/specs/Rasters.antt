@@ -1,44 +1,43 @@
 -- The raster receiver. Assumes nothing.
-use Rattle.std.specs.Prelude.{ℕ, ◌+◌, ◌-◌, ◌*◌, ◌/◌, cond, ◌||◌, [], ◌∷◌, length, Some, None, Ok, Err, Option, Result, ◌==◌}
+use Rattle.std.specs.Prelude.{ℕ, ok_or, option_map, ◌+◌, ◌-◌, ◌*◌, ◌/◌, ◌<◌, ◌≤◌, ◌||◌, [], ◌∷◌, length, position, Some, None, Ok, Err, Option, Result, ◌==◌, if◌then◌else◌}
 use Rattle.receivers.specs.declared.plan.Channel.{Channel}
 use Rattle.receivers.specs.declared.refusals.Refusal.TheVariants.{NotFitted, NotTaken}
 use Rattle.receivers.specs.declared.rejections.Rejection.{Rejection}
 use Rattle.receivers.specs.Meaning.{Meaning, Taking, plainly, readings_after}
-use Rattle.receivers.specs.Blocks.{block_at, first_below, inside}
+use Rattle.receivers.specs.Blocks.{block_at, inside}
 use Rattle.receivers.specs.Plans.{Plan}
 
 -- the frequency of a channel: the first of its block, and as many steps of the raster as its number says
 abbrev pub frequency_of : Plan → Channel → ℕ
 frequency_of p c = (block_at p.blocks c.block).first + p.raster * c.number
 
+-- where a channel is: in one of the blocks, and not above its end
+abbrev pub InBlock : Plan → Channel → Type 0
+InBlock p c = (c.block < length p.blocks) × (frequency_of p c ≤ (block_at p.blocks c.block).last)
+
 -- the block that a frequency is inside
 abbrev pub block_around : Plan → ℕ → Option ℕ
-block_around p n = first_below (inside n p.blocks) (length p.blocks)
+block_around p n = position (inside n) p.blocks
 
 -- the highest channel of a block that is not above a frequency
 abbrev pub channel_in : Plan → ℕ → ℕ → Channel
 channel_in p k n = record { block = k; number = (n - (block_at p.blocks k).first) / p.raster }
 
 -- the channel that a frequency is taken as
-abbrev pub channel_at : Plan → ℕ → Option ℕ → Option Channel
-channel_at p n (Some k) = Some (channel_in p k n)
-channel_at p n None = None
-
 abbrev pub channel_of : Plan → ℕ → Option Channel
-channel_of p n = channel_at p n (block_around p n)
+channel_of p n = option_map (λ k. channel_in p k n) (block_around p n)
 
 abbrev pub tuned_to : Plan → Option Channel → Taking
-tuned_to p (Some c) = Ok (frequency_of p c)
-tuned_to p None = Err (NotTaken 1)
+tuned_to p o = ok_or (option_map (frequency_of p) o) (NotTaken 1)
 
 -- the frequency, AF gain and squelch are fitted
 abbrev pub raster_taking : Plan → ℕ → ℕ → Taking
 raster_taking p s n =
-    cond (s == 0) (tuned_to p (channel_of p n)) (cond (s == 7 || s == 9) (plainly s n) (Err (NotFitted 1)))
+    if s == 0 then tuned_to p (channel_of p n) else if s == 7 || s == 9 then plainly s n else Err (NotFitted 1)
 
 abbrev pub raster_reading : ℕ → ℕ → ℕ → ℕ → Option ℕ
 raster_reading frequency gain squelch s =
-    cond (s == 0) (Some frequency) (cond (s == 7) (Some gain) (cond (s == 9) (Some squelch) None))
+    if s == 0 then Some frequency else if s == 7 then Some gain else if s == 9 then Some squelch else None
 
 -- what a raster receiver means that has a plan, a channel of it, and the two levels
 abbrev pub raster : Plan → Channel → ℕ → ℕ → Meaning

@@ -1,5 +1,6 @@
 -- A table receiver is lawful, whatever it was set up for and whatever was set.
 use Rattle.std.specs.Prelude.{◌≡◌, ℕ, zero, suc, ◌-◌, ◌*◌, ◌/◌, ◌%◌, ◌<◌, ◌≤◌, Bool, true, false, cond, ◌&&◌, leb, ◌≢◌, List, length, Some, None, Ok, Err, ◌==◌, nat_le, slice_index, slice_set, refl}
+use Rattle.std.specs.Bool.{then_some}
 use Rattle.std.proofs.Common.{inl, inr, arith, div-add-mod', mul-le-mul_left, get_or-set_same, get_or-set_other}
 use Rattle.std.proofs.Math.Path.{fun_ext}
 use Rattle.std.proofs.Math.Nat.{div-add-mod, mul-mod_right}
@@ -20,7 +21,7 @@ fitted_taking : (b : Bool) (t : Taking) (w : ℕ) → cond b t (Err (NotFitted 1
 fitted_taking true t w e = (refl, e)
 fitted_taking false t w e = absurd (grind arith)
 
-fitted_reading : (b : Bool) (u n : ℕ) → cond b (Some u) None ≡ Some n → (b ≡ true) × (u ≡ n)
+fitted_reading : (b : Bool) (u n : ℕ) → then_some b u ≡ Some n → (b ≡ true) × (u ≡ n)
 fitted_reading true u n e = (refl, grind arith)
 fitted_reading false u n e = absurd (grind arith)
 

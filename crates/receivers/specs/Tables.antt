@@ -1,5 +1,6 @@
 -- The table receiver. Assumes nothing.
-use Rattle.std.specs.Prelude.{◌≡◌, ℕ, ◌-◌, ◌/◌, ◌%◌, ◌^◌, Bool, true, cond, not, ◌&&◌, List, [], ◌∷◌, Some, None, Ok, Err, Option, Result, ◌==◌, nat_le, slice_index}
+use Rattle.std.specs.Prelude.{◌≡◌, ℕ, ◌-◌, ◌/◌, ◌%◌, ◌^◌, Bool, true, not, ◌&&◌, List, [], ◌∷◌, Ok, Err, Option, Result, ◌==◌, nat_le, slice_index, if◌then◌else◌}
+use Rattle.std.specs.Bool.{then_some}
 use Rattle.commands.specs.Settings.{between, lawful}
 use Rattle.receivers.specs.declared.refusals.Refusal.TheVariants.{NotFitted, NotTaken}
 use Rattle.receivers.specs.declared.rejections.Rejection.{Rejection}
@@ -17,13 +18,13 @@ fitted mask s = nat_le s 14 && bit mask s
 
 -- a frequency that is covered is kept on the grid, at or just below itself
 abbrev pub tuned : Coverage → ℕ → Taking
-tuned c n = cond (between c.low c.high n) (Ok (n - n % c.grid)) (Err (NotTaken 1))
+tuned c n = if between c.low c.high n then Ok (n - n % c.grid) else Err (NotTaken 1)
 
 abbrev pub table_taking : Coverage → ℕ → ℕ → Taking
-table_taking c s n = cond (fitted c.mask s) (cond (s == 0) (tuned c n) (plainly s n)) (Err (NotFitted 1))
+table_taking c s n = if fitted c.mask s then (if s == 0 then tuned c n else plainly s n) else Err (NotFitted 1)
 
 abbrev pub table_reading : ℕ → List ℕ → ℕ → Option ℕ
-table_reading mask numbers s = cond (fitted mask s) (Some (slice_index numbers s)) None
+table_reading mask numbers s = then_some (fitted mask s) (slice_index numbers s)
 
 -- what a table receiver means that has a coverage and a number for each setting
 abbrev pub table : Coverage → List ℕ → Meaning
@@ -47,14 +48,14 @@ new_table = table whole (first_numbers 0)
 
 -- what a set_up answers, and what it makes of a receiver that meant m
 abbrev pub set_up_answer : Coverage → Result Unit Rejection
-set_up_answer c = cond (suits c) (Ok tt) (Err SetUp)
+set_up_answer c = if suits c then Ok tt else Err SetUp
 
 abbrev pub set_up : Coverage → Meaning → Meaning
-set_up c m = cond (suits c) (table c (first_numbers c.low)) m
+set_up c m = if suits c then table c (first_numbers c.low) else m
 
 -- a number that a setting can have: what is kept for each fitted setting is always one
 abbrev pub holds : Coverage → ℕ → ℕ → Bool
-holds c s n = cond (s == 0) (between c.low c.high n && n % c.grid == 0) (lawful s n)
+holds c s n = if s == 0 then between c.low c.high n && n % c.grid == 0 else lawful s n
 
 abbrev pub Held : Coverage → List ℕ → Type 0
 Held c numbers = (s : ℕ) → fitted c.mask s ≡ true → holds c s (slice_index numbers s) ≡ true

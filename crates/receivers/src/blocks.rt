@@ -1,60 +1,33 @@
-// Blocks of channels, and the search for one.
-ghost use Rattle.std.specs.Prelude.{◌≡◌, ℕ, ◌<◌, Bool, List, length};
-ghost use Rattle.receivers.specs.Blocks.{first_below, inside, misplaced};
-ghost use Rattle.receivers.specs.declared.blocks.Block.{Block};
+//! Blocks of channels, and where they stand wrong.
+ghost use Rattle.std.specs.Prelude.{◌≡◌, ◌<◌, length};
+ghost use Rattle.receivers.specs.Blocks.{first_misplaced, inside, misplaced};
 
-use super::ranges::is_between;
-
-// The frequencies from a first to a last one, in Hz.
-#[derive(Clone, Copy)]
+/// The frequencies from a first to a last one, in Hz. `ArrayVec` fills its free places by the default.
+#[derive(Clone, Copy, Default)]
 pub(crate) struct Block {
     pub first: u32,
     pub last: u32,
 }
 
-// What a block is searched by.
-pub(crate) trait Sought {
-    ghost wanted: { Self → List Block → ℕ → Bool };
-
-    fn wants(&self, blocks: &[Block], k: usize) -> bool
-        requires { k < length blocks.now }
-        ensures { result ≡ wanted self.now blocks.now k };
+impl Block {
+    pub(crate) fn contains(&self, frequency: u64) -> bool
+        ensures { result ≡ inside frequency self.now }
+    {
+        (u64::from(self.first)..=u64::from(self.last)).contains(&frequency)
+    }
 }
 
-// The first block that is wanted.
-pub(crate) fn first_of<S: Sought>(blocks: &[Block], sought: &S) -> Option<usize>
-    ensures { result ≡ first_below (S.wanted sought.now blocks.now) (length blocks.now) }
+/// Whether a block ends before it begins, or does not begin behind the block before it.
+fn is_misplaced(blocks: &[Block], k: usize) -> bool
+    requires { k < length blocks.now }
+    ensures { result ≡ misplaced blocks.now k }
 {
-    for k in 0..blocks.len() {
-        if sought.wants(blocks, k) {
-            return Some(k);
-        }
-    }
-    None
+    let block = blocks[k];
+    block.last < block.first || (0 < k && block.first <= blocks[k - 1].last)
 }
 
-// By a frequency that it has inside.
-#[derive(Drop)]
-pub(crate) struct Around(pub u64);
-
-impl Sought for Around {
-    ghost wanted = { λ s. inside s.0 };
-
-    fn wants(&self, blocks: &[Block], k: usize) -> bool {
-        let block = blocks[k];
-        is_between(block.first as u64, block.last as u64, self.0)
-    }
-}
-
-// By ending before it begins, or not beginning behind the block before it.
-#[derive(Drop)]
-pub(crate) struct Misplaced;
-
-impl Sought for Misplaced {
-    ghost wanted = { λ s. misplaced };
-
-    fn wants(&self, blocks: &[Block], k: usize) -> bool {
-        let block = blocks[k];
-        block.last < block.first || (0 < k && block.first <= blocks[k - 1].last)
-    }
+pub(crate) fn first_misplaced(blocks: &[Block]) -> Option<usize>
+    ensures { result ≡ first_misplaced blocks.now }
+{
+    (0..blocks.len()).find(|&k| is_misplaced(blocks, k))
 }

@@ -1,24 +1,19 @@
-// A converter: its frequencies are those of the receiver below, each plus a shift.
-ghost use Rattle.std.specs.Prelude.{◌≡◌, pos, ◌+ℤ◌, ◌-ℤ◌};
+//! A converter: its frequencies are those of the receiver below, each plus a shift.
+ghost use Rattle.std.specs.Prelude.{◌≡◌, Some, if◌then◌else◌, nat_eq, pos, ◌+ℤ◌, ◌-ℤ◌};
 ghost use Rattle.receivers.specs.Converters.{convert, passed_down, ranged};
 ghost use Rattle.receivers.specs.Meaning.{changed};
 ghost use Rattle.receivers.specs.Piles.{converter_means};
 ghost use Rattle.receivers.specs.LayerLaws.{converter_laws};
 
-use super::ranges::HIGHEST;
-use super::refusals::beneath;
+use super::receiver::HIGHEST;
 use super::{Receiver, Refusal};
 use commands::Setting;
 
-// A sum, if it is a frequency.
+/// A sum, if it is a frequency.
 fn ranged(sum: i128) -> Option<u64>
     ensures { result ≡ ranged sum }
 {
-    if 0 <= sum && sum <= HIGHEST as i128 {
-        Some(sum as u64)
-    } else {
-        None
-    }
+    u64::try_from(sum).ok().filter(|&number| number <= HIGHEST)
 }
 
 #[derive(Drop)]
@@ -35,18 +30,27 @@ impl<R: Receiver> Converter<R> {
         Converter { shift, below }
     }
 
-    // The frequency below that stands for one up here.
-    fn down(&self, frequency: u64) -> Option<u64>
-        ensures { result ≡ ranged (pos frequency -ℤ self.now.shift) }
+    /// The number below that stands for one up here, if there is one. Only frequencies are shifted.
+    fn down(&self, setting: Setting, number: u64) -> Option<u64>
+        ensures { result ≡ (if nat_eq setting.number 0 then ranged (pos number -ℤ self.now.shift) else Some number) }
     {
-        ranged(frequency as i128 - self.shift as i128)
+        if setting == Setting::FREQUENCY {
+            ranged(i128::from(number) - i128::from(self.shift))
+        } else {
+            Some(number)
+        }
     }
 
-    // The frequency up here that one below stands for.
-    fn up(&self, frequency: u64) -> Option<u64>
-        ensures { result ≡ ranged (pos frequency +ℤ self.now.shift) }
+    /// The number up here that one below stands for, if there is one. It differs from `down` in a
+    /// sign, which an argument would only hide.
+    fn up(&self, setting: Setting, number: u64) -> Option<u64>
+        ensures { result ≡ (if nat_eq setting.number 0 then ranged (pos number +ℤ self.now.shift) else Some number) }
     {
-        ranged(frequency as i128 + self.shift as i128)
+        if setting == Setting::FREQUENCY {
+            ranged(i128::from(number) + i128::from(self.shift))
+        } else {
+            Some(number)
+        }
     }
 }
 
@@ -56,12 +60,14 @@ impl<R: Receiver> Receiver for Converter<R> {
     ghost sound = { λ x. converter_laws x.shift _ (R.Receiver.sound x.below) };
 
     fn try_number(&self, setting: Setting, number: u64) -> Result<u64, Refusal> {
-        if setting != Setting::FREQUENCY {
-            return beneath(self.below.try_number(setting, number));
-        }
-        let below = self.down(number).ok_or(Refusal::NotTaken { layer: 1 })?;
-        let kept = beneath(self.below.try_number(setting, below))?;
-        self.up(kept).ok_or(Refusal::NotTaken { layer: 1 })
+        let below = self
+            .down(setting, number)
+            .ok_or(Refusal::NotTaken { layer: 1 })?;
+        let kept = self
+            .below
+            .try_number(setting, below)
+            .map_err(Refusal::deeper)?;
+        self.up(setting, kept).ok_or(Refusal::NotTaken { layer: 1 })
     }
 
     fn set(&mut self, setting: Setting, number: u64) -> Result<u64, Refusal>
@@ -70,20 +76,15 @@ impl<R: Receiver> Receiver for Converter<R> {
         ensures below { R.Receiver.means self.new.below ≡ passed_down result self.old.shift setting.number number (R.Receiver.means self.old.below) }
     {
         let kept = self.try_number(setting, number)?;
-        if setting != Setting::FREQUENCY {
-            let _ = self.below.set(setting, number);
-        } else if let Some(below) = self.down(number) {
+        if let Some(below) = self.down(setting, number) {
             let _ = self.below.set(setting, below);
         }
         Ok(kept)
     }
 
     fn read(&self, setting: Setting) -> Option<u64> {
-        let number = self.below.read(setting)?;
-        if setting == Setting::FREQUENCY {
-            self.up(number)
-        } else {
-            Some(number)
-        }
+        self.below
+            .read(setting)
+            .and_then(|number| self.up(setting, number))
     }
 }

@@ -1,4 +1,4 @@
-// A fence: of the frequencies of the receiver below, those from a low one to a high one.
+//! A fence: of the frequencies of the receiver below, those from a low one to a high one.
 ghost use Rattle.std.specs.Prelude.{◌≡◌, true, if◌then◌else◌, nat_eq};
 ghost use Rattle.commands.specs.Settings.{between};
 ghost use Rattle.receivers.specs.Fences.{fence};
@@ -7,8 +7,6 @@ ghost use Rattle.receivers.specs.Meaning.{changed};
 ghost use Rattle.receivers.specs.Piles.{fence_means};
 ghost use Rattle.receivers.specs.LayerLaws.{fence_laws};
 
-use super::ranges::is_between;
-use super::refusals::beneath;
 use super::{Receiver, Refusal};
 use commands::Setting;
 
@@ -27,11 +25,11 @@ impl<R: Receiver> Fence<R> {
         Fence { low, high, below }
     }
 
-    // Whether a number may pass. The fence is about frequencies alone.
+    /// Whether a number may pass. The fence is about frequencies alone.
     fn passes(&self, setting: Setting, number: u64) -> bool
         ensures { result ≡ (if nat_eq setting.number 0 then between self.now.low self.now.high number else true) }
     {
-        setting != Setting::FREQUENCY || is_between(self.low, self.high, number)
+        setting != Setting::FREQUENCY || (self.low..=self.high).contains(&number)
     }
 }
 
@@ -44,7 +42,11 @@ impl<R: Receiver> Receiver for Fence<R> {
         if !self.passes(setting, number) {
             return Err(Refusal::NotTaken { layer: 1 });
         }
-        let kept = beneath(self.below.try_number(setting, number))?;
+        let kept = self
+            .below
+            .try_number(setting, number)
+            .map_err(Refusal::deeper)?;
+        // an `if`, alike the one above
         if self.passes(setting, kept) {
             Ok(kept)
         } else {
@@ -63,11 +65,8 @@ impl<R: Receiver> Receiver for Fence<R> {
     }
 
     fn read(&self, setting: Setting) -> Option<u64> {
-        let number = self.below.read(setting)?;
-        if self.passes(setting, number) {
-            Some(number)
-        } else {
-            None
-        }
+        self.below
+            .read(setting)
+            .filter(|&number| self.passes(setting, number))
     }
 }

@@ -1,15 +1,14 @@
-// Receivers: what one means, and four of them.
-//
-// A receiver reads a number or none for each setting, and takes some numbers, each as the number that it
-// keeps. Whatever uses receivers is proved over that meaning and its laws, once. The table and the raster
-// receiver keep numbers; the converter and the fence are layers over any receiver, in piles of any height.
+//! Receivers: what one means, and four of them.
+//!
+//! A receiver reads a number or none for each setting, and takes some numbers, each as the number that it
+//! keeps. Whatever uses receivers is proved over that meaning and its laws, once. The table and the raster
+//! receiver keep numbers; the converter and the fence are layers over any receiver, in piles of any height.
 #![tactic(auto)]
 
 mod blocks;
 mod converter;
 mod fence;
 mod plan;
-mod ranges;
 mod raster;
 mod receiver;
 mod refusals;

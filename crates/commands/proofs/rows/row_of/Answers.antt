@@ -1,5 +1,5 @@
 use Rattle.commands.proofs.Tabled.{fifteen_rows}
 use Rattle.commands.proofs.rows.row_of.Goals as goal
 
-pub returns : goal.returns
-returns c = record { value = c.find_row.ensures; fifteen = fifteen_rows }
+pub returns-clause-fifteen : goal.returns-clause-fifteen
+returns-clause-fifteen c = fifteen_rows

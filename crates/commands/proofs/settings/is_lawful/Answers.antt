@@ -1,7 +1,9 @@
-use Rattle.commands.specs.Settings.{lawful}
-use Rattle.commands.proofs.Lawful.{none_above_14}
+use Rattle.std.proofs.Common.{◌≡◌, false, get_or, sym, ap, rules}
+use Rattle.commands.specs.Settings.{lawful, lawful_numbers}
 use Rattle.commands.proofs.settings.is_lawful.Goals as goal
 
-pub returns : goal.returns
+pub returns-in-OFFSET-clause-value : goal.returns-in-OFFSET-clause-value
 unfolding lawful
-returns c = record { value = c.is_listed.ensures; none_above = none_above_14 }
+returns-in-OFFSET-clause-value c =
+    let offset : c.args.setting.number ≡ 2 = search rules in
+    ap (λ s. get_or lawful_numbers s (λ m. false) c.args.number) (sym offset)
