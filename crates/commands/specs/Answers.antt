@@ -1,6 +1,7 @@
 -- The reply that says what a receiver answers. Assumes nothing.
 use Rattle.std.specs.Prelude.{◌≡◌, ℕ, ◌^◌, ◌≤◌, if◌then◌else◌, List, [], ◌∷◌, ◌++◌, length, Some, None, Ok, Err, Option, Result, ◌≢◌, nat_lt, slice_index, slice_index_or}
 use Rattle.arrayvec.specs.ArrayVec.{ArrayVec}
+use Rattle.std.specs.Result.{result_map_both}
 use Rattle.digits.specs.Fields.{field_of}
 use Rattle.framing.specs.Frames.{NoEnd}
 use Rattle.commands.specs.declared.rows.Row.{Row}
@@ -28,8 +29,7 @@ answer_bytes (Number s n) = number_bytes (row_of s) n
 
 -- the bytes that were told, or why there are none
 abbrev pub told_bytes : Result (ArrayVec ℕ) Unanswerable → Result (List ℕ) Unanswerable
-told_bytes (Ok told) = Ok told.items
-told_bytes (Err e) = Err e
+told_bytes = result_map_both (λ told. told.items) (λ e. e)
 
 -- what a reply begins with: FE FE, the address that it goes to, the one that it comes from
 abbrev pub front : ℕ → ℕ → List ℕ
@@ -37,8 +37,7 @@ front to from = 0xFE ∷ 0xFE ∷ to ∷ from ∷ []
 
 -- what is told follows it, and FD ends them
 abbrev pub framed : ℕ → ℕ → Result (List ℕ) Unanswerable → Result (List ℕ) Unanswerable
-framed to from (Ok told) = Ok (front to from ++ told ++ (0xFD ∷ []))
-framed to from (Err e) = Err e
+framed to from = result_map_both (λ told. front to from ++ told ++ (0xFD ∷ [])) (λ e. e)
 
 -- the bytes of a reply, or why it has none
 abbrev pub reply_of : ℕ → ℕ → Answer → Result (List ℕ) Unanswerable

@@ -42,7 +42,7 @@ fn written(setting: Setting, data: &[u8], place: usize) -> Result<u64, Fault>
         place: place + stray,
     })?;
     let number = completed(setting, data.len(), number);
-    // an `if`, here and where receivers choose so: `then_some(..).ok_or(..)` says the same in more words
+    // an `if`: `then_some(number).ok_or(..)` says the same in more words
     if is_lawful(setting, number) {
         Ok(number)
     } else {
@@ -82,7 +82,7 @@ fn completed(setting: Setting, length: usize, number: u64) -> u64
     }
 }
 
-/// The filter that a mode byte alone means. It is the same for every mode now, and one function of the mode.
+/// The filter that a mode byte alone means: for every mode the same, so far.
 fn default_filter(_mode: u64) -> u64
     ensures { result ≡ default_filter _mode }
 {

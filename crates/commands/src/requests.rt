@@ -25,8 +25,9 @@ pub enum VfoCommand {
     Exchange,
 }
 
-/// A reading, a writing or a VFO command. A writing has its data bytes as a part of the body, and the
-/// place where they begin there: it borrows, which is a form that is wanted as it is.
+/// A reading, a writing or a VFO command. A writing borrows its data bytes as a part of the body and has the place
+/// where they begin there, a form that is wanted as it is. Contracts see a request by its parts (`seen`), since an
+/// enum has no model.
 #[derive(Clone, Copy)]
 pub enum Request<'a> {
     Read(Setting),

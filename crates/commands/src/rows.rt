@@ -38,10 +38,7 @@ impl Row {
     pub(crate) fn data_place(&self) -> usize
         ensures { result ≡ data_place self.now }
     {
-        match self.sub {
-            Some(_) => 4,
-            None => 3,
-        }
+        self.sub.map_or(3, |_| 4)
     }
 
     /// A command with so many data bytes reads the row's setting.

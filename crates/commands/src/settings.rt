@@ -2,8 +2,8 @@
 ghost use Rattle.std.specs.Prelude.{◌≡◌};
 ghost use Rattle.commands.specs.Settings.{NoneAbove14, lawful, mode_with_filter};
 
-/// A setting by its number. Fifteen are listed below; a number above 14 names a setting that no
-/// receiver has, and a receiver has to be able to say so: an enum of the fifteen could not ask for it.
+/// A setting by its number. Fifteen are listed below. A number above 14 names a setting that no receiver has, and
+/// a receiver has to be able to say so: hence a number, and no enum of the fifteen.
 #[derive(Clone, Copy, PartialEq, Eq, Debug)]
 pub struct Setting {
     pub number: u8,

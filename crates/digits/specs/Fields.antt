@@ -54,7 +54,7 @@ field_of HighFirst w n = reverse (low_field w n)
 abbrev pub field_writing : ℕ → ℕ → Result (Unit {0}) Unwritable
 field_writing n w = if nat_lt 5 w then Err unwritable.TooLong else if nat_lt n (100 ^ w) then Ok tt else Err unwritable.DoesNotFit
 
--- each is a digit byte
+-- each is a digit byte; a proof goes down the field with it, which the library's word, by places, does not allow
 abbrev pub AllDigits : List ℕ → Type 0
 AllDigits [] = Unit {0}
 AllDigits (b ∷ bs) = (is_digit_byte b ≡ true) × AllDigits bs

@@ -22,9 +22,10 @@ pub fn read_field(order: Order, field: &[u8]) -> Result<u64, Unreadable>
 }
 
 /// The number of a field that has its lowest digits first, or the place of its first stray byte: one that
-/// is no digit byte. It is the number of the first byte, and 100 times that of the rest.
+/// is no digit byte. The number is that of the first byte, and 100 times that of the rest. That the field is short
+/// is asked for and not kept in a struct, since the recursion would make one for each rest.
 fn low_first(field: &[u8]) -> Result<u64, usize>
-    requires { length field.now ≤ 5 }
+    requires { length field.now ≤ MOST_BYTES }
     ensures { result ≡ number_or_stray LowFirst field.now }
 {
     match field {
@@ -41,7 +42,7 @@ fn low_first(field: &[u8]) -> Result<u64, usize>
 /// before it. These are read first, so that the first stray byte is the one named; a single function for
 /// both orders would have to ask at each byte from which end it reads.
 fn high_first(field: &[u8]) -> Result<u64, usize>
-    requires { length field.now ≤ 5 }
+    requires { length field.now ≤ MOST_BYTES }
     ensures { result ≡ number_or_stray HighFirst field.now }
 {
     match field {

@@ -21,8 +21,8 @@ const NUMBERS: [u8; 256] = [
     255, 255, 255, 255, 255, 255,
 ];
 
-/// The number that a byte writes in two decimal digits, or 255 where it is no digit byte: a number and no
-/// option, since it is the entry of a table that others read too.
+/// The number that a byte writes in two decimal digits, or 255 where it is no digit byte. It is a number and no
+/// option, since a table of 256 numbers with this mark is a form that is wanted.
 pub fn byte_number(byte: u8) -> u8
     ensures { result ≡ number_of_byte byte }
 {
@@ -37,7 +37,7 @@ fn entry(place: usize) -> u8
     NUMBERS[place]
 }
 
-/// The same without the mark: the number of a digit byte, and none of another.
+/// The number of a digit byte; another byte has none.
 pub(crate) fn pair_number(byte: u8) -> Option<u8>
     ensures { result ≡ (if is_digit_byte byte then Some (number_of_byte byte) else None) }
 {

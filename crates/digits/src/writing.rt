@@ -26,7 +26,7 @@ pub fn write_field(order: Order, number: u64, field: &mut [u8]) -> Result<(), Un
 
 /// The numbers below it fit the width.
 fn limit(width: usize) -> u64
-    requires { width ≤ 5 }
+    requires { width ≤ MOST_BYTES }
     ensures { result ≡ 100 ^ width }
 {
     // five at most: a cast, since `try_from` would answer a failure that cannot be
@@ -38,6 +38,7 @@ fn write_in_order(order: Order, number: u64, field: &mut [u8])
     ensures { field.new ≡ field_of order (length field.old) number }
 {
     write_low_first(number, field);
+    // an `if`: it is the one step in which the orders differ
     if order == Order::HighFirst {
         field.reverse();
     }

@@ -1,7 +1,8 @@
 -- The body of a stretch follows its last pair of FE.
 use Rattle.std.proofs.Common.{◌≡◌, ℕ, Bool, true, false, cond, ◌&&◌, eqb, List, [], ◌∷◌, ◌++◌, Some, None, Option, refl, ap, ◌∙◌, subst, arith}
 use Rattle.std.proofs.lemmas.Bool.{both_ways, eqb-true, and_parts}
-use Rattle.framing.specs.Frames.{body_of, or_else, NoPair, IsBody, BodiesFollowLastPairs}
+use Rattle.std.specs.Option.{option_or}
+use Rattle.framing.specs.Frames.{body_of, NoPair, IsBody, BodiesFollowLastPairs}
 
 -- a pair of FE at the front
 abbrev is_pair : ℕ → ℕ → Bool
@@ -17,7 +18,7 @@ none_found : (xs : List ℕ) → NoPair xs → body_of xs ≡ None
 none_found [] n = refl
 none_found (a ∷ []) n = refl
 none_found (a ∷ b ∷ bs) n =
-    ap (λ o. or_else o (cond (is_pair a b) (Some bs) None))
+    ap (λ o. option_or o (cond (is_pair a b) (Some bs) None))
     (none_found (b ∷ bs) (λ front back e. n (a ∷ front) back (ap (λ l. a ∷ l) e)))
     ∙ go (is_pair a b) refl
   where
@@ -27,10 +28,10 @@ none_found (a ∷ b ∷ bs) n =
 
 -- the last pair is found, whatever stands before it
 last_found : (front body : List ℕ) → NoPair (0xFE ∷ body) → body_of (front ++ (0xFE ∷ 0xFE ∷ body)) ≡ Some body
-last_found [] body n = ap (λ o. or_else o (Some body)) (none_found (0xFE ∷ body) n)
-last_found (x ∷ []) body n = ap (λ o. or_else o (cond (is_pair x 0xFE) (Some (0xFE ∷ body)) None)) (last_found [] body n)
+last_found [] body n = ap (λ o. option_or o (Some body)) (none_found (0xFE ∷ body) n)
+last_found (x ∷ []) body n = ap (λ o. option_or o (cond (is_pair x 0xFE) (Some (0xFE ∷ body)) None)) (last_found [] body n)
 last_found (x ∷ y ∷ xs) body n =
-    ap (λ o. or_else o (cond (is_pair x y) (Some (xs ++ (0xFE ∷ 0xFE ∷ body))) None)) (last_found (y ∷ xs) body n)
+    ap (λ o. option_or o (cond (is_pair x y) (Some (xs ++ (0xFE ∷ 0xFE ∷ body))) None)) (last_found (y ∷ xs) body n)
 
 -- what is found is the body, and with nothing found there is no pair
 abbrev Found : List ℕ → Option (List ℕ) → Type 0
@@ -65,7 +66,7 @@ found [] = no_pair_in_none
 found (a ∷ []) = no_pair_in_one a
 found (a ∷ b ∷ bs) = go (body_of (b ∷ bs)) (found (b ∷ bs)) (is_pair a b) refl
   where
-    go : (o : Option (List ℕ)) → Found (b ∷ bs) o → (t : Bool) → is_pair a b ≡ t → Found (a ∷ b ∷ bs) (or_else o (cond t (Some bs) None))
+    go : (o : Option (List ℕ)) → Found (b ∷ bs) o → (t : Bool) → is_pair a b ≡ t → Found (a ∷ b ∷ bs) (option_or o (cond t (Some bs) None))
     go (Some body) f t e = record { front = a ∷ f.front; stands = ap (λ l. a ∷ l) f.stands; last = f.last }
     go None f true e =
         record {

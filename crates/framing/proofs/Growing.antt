@@ -1,7 +1,8 @@
 -- What one byte more does to the body of a stretch.
 use Rattle.std.proofs.Common.{◌≡◌, ℕ, ◌<◌, ◌≤◌, Bool, true, false, cond, not, ◌&&◌, ◌||◌, eqb, leb, ◌⊎◌, List, [], ◌∷◌, ◌++◌, length, Some, None, Option, refl, ap, ◌∙◌, inl, inr, arith, length-append}
 use Rattle.std.proofs.lemmas.Bool.{and_left, and_right, and_from, not_from_true, lt-leb, le-leb, eq-eqb}
-use Rattle.framing.specs.Frames.{body_of, or_else, sound, clean, from_controller, is_answer}
+use Rattle.std.specs.Option.{option_or}
+use Rattle.framing.specs.Frames.{body_of, sound, clean, from_controller, is_answer}
 use Rattle.framing.specs.Machine.{complete}
 
 -- the last byte is FE
@@ -24,10 +25,10 @@ body_push : (xs : List ℕ) (b : ℕ) → body_of (xs ++ (b ∷ [])) ≡ cond (e
 body_push [] b = refl
 body_push (x ∷ []) b = refl
 body_push (x ∷ y ∷ ys) b =
-    ap (λ o. or_else o (cond (eqb x 0xFE && eqb y 0xFE) (Some (ys ++ (b ∷ []))) None)) (body_push (y ∷ ys) b)
+    ap (λ o. option_or o (cond (eqb x 0xFE && eqb y 0xFE) (Some (ys ++ (b ∷ []))) None)) (body_push (y ∷ ys) b)
     ∙ go (ends_marked (y ∷ ys) && eqb b 0xFE) (body_of (y ∷ ys)) (eqb x 0xFE && eqb y 0xFE)
   where
-    go : (new : Bool) (o : Option (List ℕ)) (pair : Bool) → or_else (cond new (Some []) (longer b o)) (cond pair (Some (ys ++ (b ∷ []))) None) ≡ cond new (Some []) (longer b (or_else o (cond pair (Some ys) None)))
+    go : (new : Bool) (o : Option (List ℕ)) (pair : Bool) → option_or (cond new (Some []) (longer b o)) (cond pair (Some (ys ++ (b ∷ []))) None) ≡ cond new (Some []) (longer b (option_or o (cond pair (Some ys) None)))
     go true o pair = refl
     go false (Some body) pair = refl
     go false None true = refl

@@ -1,10 +1,10 @@
 -- The framing machine over a stream: it gives just the sound frames, however the stream is cut.
-use Rattle.std.proofs.Common.{◌≡◌, ℕ, ◌+◌, ◌<◌, Bool, true, false, cond, ◌&&◌, eqb, List, [], ◌∷◌, ◌++◌, length, get_or, drop, sym, refl, ap, ◌∙◌, inl, inr, append_assoc, arith}
+use Rattle.std.proofs.Common.{◌≡◌, ℕ, ◌+◌, ◌<◌, Bool, true, false, cond, ◌&&◌, eqb, List, [], ◌∷◌, ◌++◌, length, get_or, drop, sym, refl, ap, ◌∙◌, inl, inr, append_assoc}
 use Rattle.std.proofs.lemmas.List.{at_drop_more}
 use Rattle.std.proofs.lemmas.Bool.{cases_Bool, eqb-true}
 use Rattle.framing.specs.declared.framer.State.TheVariants.{Preamble}
 use Rattle.std.specs.List.{concat}
-use Rattle.framing.specs.Frames.{stretches, frame_in, frames_in, body_of, sound_frames, is_for, frames_for}
+use Rattle.framing.specs.Frames.{stretches, frame_in, frames_in, body_of, sound_frames}
 use Rattle.framing.specs.Machine.{Machine, at, fresh, stepped, marked, grown, in_body, complete, ends_frame, gives, leaves, gives_over, GivesSoundFrames}
 use Rattle.framing.proofs.Standing.{StandsFor, mark_stands, byte_stands, end_stands}
 
@@ -65,21 +65,3 @@ pub gives_turn :
 gives_turn m n stream i ends h e known =
     at_drop_more (gives m) stream i 0 h
     ∙ (λ j. cond (known j) ((sym e j).held ∷ gives (sym e j) (drop (i + 1) stream)) (gives (sym e j) (drop (i + 1) stream)))
-
-count_one :
-    (address : ℕ) (ends : Bool) (body : List ℕ) (more : List (List ℕ)) →
-    length (frames_for address (cond ends (body ∷ more) more)) ≡ cond (ends && is_for address body) 1 0 + length (frames_for address more)
-count_one address false body more = omega arith
-count_one address true body more =
-    elim (is_for address body) as (λ t. length (cond t (body ∷ frames_for address more) (frames_for address more)) ≡ cond t 1 0 + length (frames_for address more))
-    [ true ↦ omega arith | false ↦ omega arith ]
-
--- the same for the number of frames for an address
-pub count_turn :
-    (address : ℕ) (m n : Machine) (stream : List ℕ) (i : ℕ) (hit : Bool) → i < length stream →
-    n ≡ stepped m (get_or stream i 0) → (ends_frame m (get_or stream i 0) && is_for address n.held) ≡ hit →
-    length (frames_for address (gives m (drop i stream))) ≡ cond hit 1 0 + length (frames_for address (gives n (drop (i + 1) stream)))
-count_turn address m n stream i hit h e known =
-    ap (λ frames. length (frames_for address frames)) (gives_turn m n stream i (ends_frame m (get_or stream i 0)) h e refl)
-    ∙ count_one address (ends_frame m (get_or stream i 0)) n.held (gives n (drop (i + 1) stream))
-    ∙ ap (λ t. cond t 1 0 + length (frames_for address (gives n (drop (i + 1) stream)))) known

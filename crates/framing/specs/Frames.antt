@@ -2,6 +2,7 @@
 -- FE is the mark, FD the end, FC the jammer; FB and FA are a receiver's answers.
 use Rattle.std.specs.Prelude.{◌≡◌, ℕ, Bool, true, false, not, if◌then◌else◌, ◌&&◌, ◌||◌, List, [], ◌∷◌, ◌++◌, map, length, filter, Some, None, Option, ◌==◌, ◌≢◌, nat_le, slice_index}
 use Rattle.std.specs.List.{concat}
+use Rattle.std.specs.Option.{option_or}
 use Rattle.framing.specs.Lists.{All}
 
 -- the stretches that an FD ends in some bytes, where `kept` came since the last FD before them
@@ -36,15 +37,11 @@ pub record IsBody (stretch body : List ℕ) : Type 0 where
   pub stands : stretch ≡ front ++ (0xFE ∷ 0xFE ∷ body)
   pub last : NoPair (0xFE ∷ body)
 
-abbrev pub or_else : Option (List ℕ) → Option (List ℕ) → Option (List ℕ)
-or_else (Some x) y = Some x
-or_else None y = y
-
 -- the body of a stretch by a later pair, if there is one, else by a pair at its front
 abbrev pub body_of : List ℕ → Option (List ℕ)
 body_of [] = None
 body_of (a ∷ []) = None
-body_of (a ∷ b ∷ bs) = or_else (body_of (b ∷ bs)) (if a == 0xFE && b == 0xFE then Some bs else None)
+body_of (a ∷ b ∷ bs) = option_or (body_of (b ∷ bs)) (if a == 0xFE && b == 0xFE then Some bs else None)
 
 -- that is the body after the last pair, and there is none only where there is no pair
 abbrev pub BodiesFollowLastPairs : Type 0

@@ -10,6 +10,8 @@ pub fn count_frames(stream: &[u8], address: u8) -> usize
 {
     let mut framer = Framer::new();
     let mut count = 0;
+    // a loop and a count: a chain's closure would change the machine that it captures, and the check then does not
+    // find what came of it
     for byte in stream {
         if framer.take(*byte) && is_for(framer.frame(), address) {
             count += 1;

@@ -56,14 +56,14 @@ impl Framer {
     /// The body that was gathered last: after an FD that ended a sound frame, that frame's.
     pub fn frame(&self) -> &[u8]
         ensures body { result.now ≡ self.now.held }
-        ensures short { length result.now ≤ 40 }
+        ensures short { length result.now ≤ LONGEST_BODY }
     {
         self.body.as_slice()
     }
 
-    /// Takes the next byte of the stream, and says whether a sound frame ends with it. The frame itself is
-    /// asked for by `frame`: one lent out of `&mut self` would leave a contract no machine to speak of after
-    /// the call.
+    /// Takes the next byte of the stream, and says whether a sound frame ends with it. `frame` then lends that
+    /// frame. `take` does not lend it itself: a contract cannot say what a machine holds of which a part is
+    /// still lent.
     pub fn take(&mut self, byte: u8) -> bool
         ensures after { self.new ≡ stepped self.old byte }
         ensures ends { result ≡ ends_frame self.old byte }

@@ -1,10 +1,9 @@
 -- Reading a text from its front on. Assumes nothing.
-use Rattle.std.proofs.Common.{◌≡◌, ℕ, ◌<◌, ◌≤◌, leb, ◌⊎◌, List, ◌++◌, length, drop, Ok, Err, sym, ap, ◌∙◌, ⊎_elim, append-nil, arith}
-use Rattle.std.proofs.lemmas.List.{at_drop_more, at_drop_all}
+use Rattle.std.proofs.Common.{◌≡◌, ℕ, ◌<◌, ◌≤◌, leb, List, ◌++◌, length, drop, Ok, Err, sym, ap, ◌∙◌}
+use Rattle.std.proofs.lemmas.List.{at_drop_more}
 use Rattle.std.proofs.lemmas.Bool.{cond-true, le-leb}
 use Rattle.hexadecimal.specs.declared.reader.Standing.{Standing}
-use Rattle.hexadecimal.specs.declared.reader.Standing.TheVariants.{Between, Remark}
-use Rattle.hexadecimal.specs.Texts.{Reading, bad, at_end, reading_from}
+use Rattle.hexadecimal.specs.Texts.{Reading, bad, reading_from}
 
 -- bytes that were read already, before those of the rest
 abbrev pub after : List ℕ → Reading → Reading
@@ -16,10 +15,3 @@ module _ (front : List ℕ) (s : Standing) (xs : List ℕ) (i : ℕ) (whole : Re
   -- character 4,096
   pub past : i < length xs → 4096 ≤ i → bad i ≡ whole
   past h k = ap (after front) (sym (at_drop_more (reading_from s i) xs i 0 h ∙ cond-true (leb 4096 i) _ _ (le-leb 4096 i k))) ∙ so_far
-
-  -- no character
-  ended : {t : Standing} → s ≡ t → length xs ≡ i → after front (at_end t (length xs)) ≡ whole
-  ended e h = ap (after front) (sym (at_drop_all (reading_from s i) xs i (omega arith) ∙ (λ j. at_end (e j) (sym h j)))) ∙ so_far
-
-  pub ended_whole : (s ≡ Between) ⊎ (s ≡ Remark) → length xs ≡ i → Ok front ≡ whole
-  ended_whole stands h = ap Ok (sym (append-nil front)) ∙ ⊎_elim (λ e. ended e h) (λ e. ended e h) stands

@@ -13,12 +13,12 @@ mod printed;
 mod reader;
 mod symbols;
 
-pub use bytes::Bytes;
+pub use bytes::{Bytes, CAPACITY};
 pub use decimal::write_decimal;
 pub use lines::{NoRoom, write_line, write_text};
 pub use page::{PAGE_ROOM, Page};
 pub use printed::{Decimal, Line, Printed, Text};
-pub use reader::{BadText, read, read_overlong};
+pub use reader::{BadText, LIMIT, read, read_overlong};
 pub use symbols::{Symbol, symbol_of};
 
 #[cfg(test)]

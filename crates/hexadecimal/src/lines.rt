@@ -35,7 +35,8 @@ fn write_spaced(bytes: &[u8], memory: &mut [u8])
 }
 
 /// Writes the line of some bytes at the start of the memory, and says how long it is. The rest of the
-/// memory stays, and all of it where the line has no room.
+/// memory stays, and all of it where the line has no room. Each writer of a text says both, since a memory is the
+/// caller's and no type of ours can keep the fact.
 #[tactic(auto, using(crate::proofs::Spaced::length_line, crate::proofs::Spaced::line_in_front))]
 pub fn write_line(bytes: &[u8], memory: &mut [u8]) -> Result<usize, NoRoom>
     ensures value { result ≡ placed_answer (line bytes.now) memory.old }

@@ -9,8 +9,8 @@ use std::marker::Model;
 /// How many characters a page has room for.
 pub const PAGE_ROOM: usize = 32_768;
 
-/// An array and a length: `write` fills the free room, which an `ArrayVec` does not lend, so that with one
-/// each `add` would go by a second array of this size.
+/// A text that stands on the page, from its start. An array and a length, and no `ArrayVec`: what is printed is
+/// written into the free room, which an `ArrayVec` does not lend; each `add` would need a second array.
 #[derive(Drop)]
 pub struct Page {
     memory: [u8; PAGE_ROOM],

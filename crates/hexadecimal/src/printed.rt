@@ -6,6 +6,8 @@ ghost use Rattle.hexadecimal.specs.Memory.{placed, placed_answer};
 use super::decimal::write_decimal;
 use super::lines::{NoRoom, write_line, write_text};
 
+/// What can be added to a page. The three functions that write stand beside the three types, since both are
+/// called from outside.
 pub trait Printed {
     ghost text: { Self → List ℕ };
 

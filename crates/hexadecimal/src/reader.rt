@@ -53,7 +53,7 @@ fn advance(standing: Standing, symbol: Symbol) -> Option<Step>
 
 /// The bytes of a text, or the position of its first fault. That reading goes by the rules of the grammar
 /// is said of the definition.
-#[tactic(auto, using(crate::proofs::Readings::past, crate::proofs::Readings::ended_whole))]
+#[tactic(auto, using(crate::proofs::Readings::past))]
 pub fn read(text: &[u8]) -> Result<Bytes, BadText>
     ensures value { result ≡ text_reading text.now }
     ensures by_rules { ReadsByRules }

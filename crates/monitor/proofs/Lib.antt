@@ -1,4 +1,3 @@
 pub mod Fitting
 pub mod Listing
 pub mod Reporting
-pub mod Filling

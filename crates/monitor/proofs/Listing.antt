@@ -1,8 +1,7 @@
 -- A page that fills up with the lines of a stream's frames. Assumes nothing.
-use Rattle.std.proofs.Common.{◌≡◌, ℕ, ◌+◌, ◌<◌, List, [], ◌∷◌, ◌++◌, length, codes, sym, ap, ◌∙◌, append_assoc, arith, length-append}
-use Rattle.std.proofs.lemmas.List.{append-nil}
+use Rattle.std.proofs.Common.{◌≡◌, ℕ, ◌+◌, ◌<◌, List, ◌∷◌, ◌++◌, length, sym, ap, ◌∙◌, append_assoc, arith, length-append}
 use Rattle.hexadecimal.specs.Lines.{line}
-use Rattle.monitor.specs.Reports.{frame_lines, count_line, listing}
+use Rattle.monitor.specs.Reports.{frame_lines}
 
 -- some lines stand on the page, and the first of the frames that are left comes next
 module _ (page body : List ℕ) (frames more : List (List ℕ)) (all : List ℕ) (next : frames ≡ body ∷ more) (so_far : page ++ frame_lines frames ≡ all) where
@@ -21,10 +20,3 @@ module _ (page body : List ℕ) (frames more : List (List ℕ)) (all : List ℕ)
         length-append page (line body ++ frame_lines more),
         length-append (line body) (frame_lines more),
       )
-
--- no frames are left
-pub listing_ended : (page : List ℕ) (frames left : List (List ℕ)) (n : ℕ) → left ≡ [] → page ++ frame_lines left ≡ frame_lines frames → n + length left ≡ length frames → page ++ count_line (codes "frames ") n ≡ listing frames
-listing_ended page frames left n none so_far counted =
-    let lines : page ≡ frame_lines frames = sym (ap (λ fs. page ++ frame_lines fs) none ∙ append-nil page) ∙ so_far in
-    let count : n ≡ length frames = omega (arith, ap length none) in
-    λ j. lines j ++ count_line (codes "frames ") (count j)

@@ -1,11 +1,20 @@
 -- What the monitor prints of a text. Assumes nothing.
-use Rattle.std.specs.Prelude.{◌≡◌, ℕ, List, [], ◌∷◌, ◌++◌, length, Ok, Err, codes, decimal}
+use Rattle.std.specs.Prelude.{◌≡◌, ℕ, Bool, true, false, List, [], ◌∷◌, ◌++◌, length, Ok, Err, codes, decimal}
 use Rattle.std.specs.List.{flat_map}
 use Rattle.framing.specs.Frames.{sound_frames}
 use Rattle.hexadecimal.specs.Lines.{line}
 use Rattle.monitor.specs.declared.report.Given.{Given}
 use Rattle.monitor.specs.declared.report.Given.TheVariants.{Whole, Cut}
 use Rattle.hexadecimal.specs.Texts.{Reading, text_reading, overlong}
+
+-- the characters that are given, and whether the text goes on behind them
+abbrev pub characters : Given → List ℕ
+characters (Whole text) = text.now
+characters (Cut text) = text.now
+
+abbrev pub goes_on : Given → Bool
+goes_on (Whole text) = false
+goes_on (Cut text) = true
 
 -- a word with a space after it, a number, and LF
 abbrev pub count_line : List ℕ → ℕ → List ℕ

@@ -1,47 +1,36 @@
 //! Shows the sound frames of a capture that is given as hexadecimal text on standard input.
 #![tactic(auto)]
 
-ghost use Rattle.std.specs.Prelude.{◌<◌, ◌≤◌, length, take, IfOk};
-ghost use Rattle.std.specs.Io.KnownBytes.{Consumes, IsAtEnd};
+ghost use Rattle.std.specs.Prelude.{◌≡◌, length, nat_lt, take};
+ghost use Rattle.monitor.specs.Reports.{characters, goes_on};
 
 mod report;
 #[cfg(test)]
 mod tests;
 
+use arrayvec::ArrayVec;
+use hexadecimal::LIMIT;
 use report::{Given, report};
 use std::io;
 use std::io::{Read, Write};
 
+/// One character more than a text may have shows that it goes on.
+const ENOUGH: usize = LIMIT + 1;
+
 fn main(rt: HostRuntime) -> io::Result<()> {
-    // an array, filled as far as the text goes: there is no heap
-    let mut text = [0u8; 4096];
-    let mut more = [0u8; 1];
-    let mut input = rt.stdin();
-    let len = fill(&mut input, &mut text)?;
-    let goes_on = len == text.len() && fill(&mut input, &mut more)? > 0;
-    let text = &text[..len];
-    let given = if goes_on {
-        Given::Cut(text)
-    } else {
-        Given::Whole(text)
-    };
-    rt.stdout().write_all(report(given).as_slice())
+    let mut text = ArrayVec::<u8, ENOUGH>::new();
+    // a cast of a constant, which loses nothing
+    io::copy(&mut rt.stdin().take(ENOUGH as u64), &mut text)?;
+    rt.stdout().write_all(report(given(&text)).as_slice())
 }
 
-/// Reads until the memory is full or the input ends, and says how many bytes came.
-#[tactic(auto, using(crate::proofs::Filling::filled_more))]
-fn fill<R: Read>(input: &mut R, memory: &mut [u8]) -> io::Result<usize>
-    ensures within { IfOk result (λ n. n ≤ length memory.old) }
-    ensures bytes { IfOk result (λ n. Consumes (R.remaining input.old) (R.remaining input.new) (take n memory.new)) }
-    ensures end { IfOk result (λ n. n < length memory.old → IsAtEnd (R.remaining input.new)) }
+/// What was read, whole or cut after as many characters as a text may have.
+fn given(text: &[u8]) -> Given<'_>
+    ensures characters { characters result ≡ take LIMIT text.now }
+    ensures goes_on { goes_on result ≡ nat_lt LIMIT (length text.now) }
 {
-    // by a loop: `read_exact` tells no count where the input ends, and `read_to_end` needs a heap
-    let mut len = 0;
-    while len < memory.len() {
-        match input.read(&mut memory[len..])? {
-            0 => break,
-            got => len += got,
-        }
+    match text.get(..LIMIT) {
+        Some(start) if text.len() > LIMIT => Given::Cut(start),
+        _ => Given::Whole(text),
     }
-    Ok(len)
 }

@@ -68,6 +68,7 @@ fn list_frames(stream: &[u8]) -> Result<Page, NoRoom>
     let mut page = Page::blank();
     let mut framer = Framer::new();
     let mut frames = 0;
+    // a loop and a count, since a frame may find no room
     for byte in stream {
         if framer.take(*byte) {
             page.add(Line(framer.frame()))?;

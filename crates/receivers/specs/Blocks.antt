@@ -4,10 +4,11 @@ use Rattle.std.specs.List.{find, range_with_len}
 use Rattle.commands.specs.Settings.{between}
 use Rattle.receivers.specs.declared.blocks.Block.{Block}
 
--- the block at a place, and what stands behind the last one
+-- what stands behind the last block
 abbrev pub no_block : Block
 no_block = record { first = 0; last = 0 }
 
+-- the block at a place
 abbrev pub block_at : List Block → ℕ → Block
 block_at blocks k = slice_index_or blocks k no_block
 

@@ -11,8 +11,8 @@ use Rattle.std.proofs.lemmas.List.Sums.{fails_before_first, position_or_len_is}
 use Rattle.std.proofs.lemmas.Option.{slice_get_cases}
 
 module _ {X : Type 0} (p : X → Bool) (xs : List X) where
-  pub position-None : (d : X) → position p xs ≡ None → (k : ℕ) → k < length xs → p (get_or xs k d) ≡ false
-  position-None d e k h =
+  pub position_none : (d : X) → position p xs ≡ None → (k : ℕ) → k < length xs → p (get_or xs k d) ≡ false
+  position_none d e k h =
       let f = fails_before_first p xs k d in
       grind (arith, nat_tests)
 
@@ -32,8 +32,8 @@ module _ (p : ℕ → Bool) where
 
 module _ (p : ℕ → Bool) (n : ℕ) where
   -- of the numbers from 0 on, each is its own place
-  find-position : find p (range_with_len 0 n) ≡ position p (range_with_len 0 n)
-  find-position =
+  find_position : find p (range_with_len 0 n) ≡ position p (range_with_len 0 n)
+  find_position =
       let xs = range_with_len 0 n in
       let i = position_or_len p xs in
       let e = find_at p xs in
@@ -48,17 +48,17 @@ module _ (p : ℕ → Bool) (n : ℕ) where
 
   pub first_found : (k : ℕ) → find p (range_with_len 0 n) ≡ Some k → (k < n) × (p k ≡ true) × FailsBelow p k
   first_found k e =
-      let (l, t, before) = position-Some p (range_with_len 0 n) k 0 (sym find-position ∙ e) in
+      let (l, t, before) = position-Some p (range_with_len 0 n) k 0 (sym find_position ∙ e) in
       let h : k < n = omega (arith, l, length-range_with_len 0 n) in
       (h, rw (at_place k h) at t, λ j b. rw (at_place j (omega arith)) at (before j b))
 
   pub none_passes : find p (range_with_len 0 n) ≡ None → FailsBelow p n
   none_passes e j h =
-      rw (at_place j h) at (position-None p (range_with_len 0 n) 0 (sym find-position ∙ e) j (omega (arith, length-range_with_len 0 n)))
+      rw (at_place j h) at (position_none p (range_with_len 0 n) 0 (sym find_position ∙ e) j (omega (arith, length-range_with_len 0 n)))
 
   pub first_is : (k : ℕ) → k < n → p k ≡ true → FailsBelow p k → find p (range_with_len 0 n) ≡ Some k
   first_is k h t before =
-      find-position
+      find_position
       ∙ position_is p (range_with_len 0 n) k 0 (omega (arith, length-range_with_len 0 n)) (rw (at_place k h) t) (λ j b. rw (at_place j (omega arith)) (before j b))
 
   pub first_fails : FailsBelow p n → find p (range_with_len 0 n) ≡ None

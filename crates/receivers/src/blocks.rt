@@ -2,6 +2,13 @@
 ghost use Rattle.std.specs.Prelude.{◌≡◌, ◌<◌, length};
 ghost use Rattle.receivers.specs.Blocks.{first_misplaced, inside, misplaced};
 
+use arrayvec::ArrayVec;
+
+/// The most blocks that a plan has.
+pub(crate) const MOST_BLOCKS: usize = 16;
+
+pub(crate) type Blocks = ArrayVec<Block, MOST_BLOCKS>;
+
 /// The frequencies from a first to a last one, in Hz. `ArrayVec` fills its free places by the default.
 #[derive(Clone, Copy, Default)]
 pub(crate) struct Block {

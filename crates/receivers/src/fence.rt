@@ -12,6 +12,7 @@ use commands::Setting;
 
 #[derive(Drop)]
 pub struct Fence<R> {
+    // two numbers and no range: contracts name the two ends
     low: u64,
     high: u64,
     below: R,
@@ -46,7 +47,7 @@ impl<R: Receiver> Receiver for Fence<R> {
             .below
             .try_number(setting, number)
             .map_err(Refusal::deeper)?;
-        // an `if`, alike the one above
+        // an `if`: `then_some(kept).ok_or(..)` says the same in more words
         if self.passes(setting, kept) {
             Ok(kept)
         } else {

@@ -7,8 +7,8 @@ ghost use Rattle.receivers.specs.Rasters.{InBlock, block_around, channel_of, fre
 mod bytes;
 
 use super::Rejection;
-use super::blocks::{Block, first_misplaced};
-use arrayvec::ArrayVec;
+use super::blocks::{Block, Blocks, first_misplaced};
+use super::receiver::COARSEST;
 use bytes::PlanBytes;
 use std::marker::Model;
 
@@ -30,7 +30,7 @@ impl Channel {
 pub(crate) struct ChannelPlan {
     /// from channel to channel, in Hz
     raster: u32,
-    blocks: ArrayVec<Block, 16>,
+    blocks: Blocks,
 }
 
 impl Model for ChannelPlan {
@@ -46,17 +46,16 @@ impl Model for ChannelPlan {
 impl ChannelPlan {
     /// One block with the frequency 0.
     pub(crate) fn new() -> Self
-        ensures value { result ≡ new_plan }
-        ensures sound { IsWellFormed result }
+        ensures { result ≡ new_plan }
     {
-        let mut blocks = ArrayVec::new();
+        let mut blocks = Blocks::new();
         blocks.push(Block { first: 0, last: 0 });
         ChannelPlan { raster: 1, blocks }
     }
 
     /// A plan of some blocks, if none is misplaced.
     #[tactic(auto, using(crate::specs::Firsts::first_found))]
-    fn ordered(raster: u32, blocks: ArrayVec<Block, 16>) -> Result<ChannelPlan, Rejection>
+    fn ordered(raster: u32, blocks: Blocks) -> Result<ChannelPlan, Rejection>
         requires step { 0 < raster }
         requires fine { raster ≤ 1000000 }
         requires some { 0 < length blocks.items }
@@ -64,6 +63,7 @@ impl ChannelPlan {
         ensures value { result ≡ ordered raster blocks.items }
         ensures sound { IfOk result IsWellFormed }
     {
+        // a `match`: the way without a misplaced block needs the blocks themselves
         match first_misplaced(&blocks) {
             // sixteen at most, so the cast loses nothing and has no failure to handle
             Some(block) => Err(Rejection::PlanBlock { block: block as u8 }),
@@ -113,7 +113,7 @@ impl TryFrom<&[u8]> for ChannelPlan {
     fn try_from(bytes: &[u8]) -> Result<ChannelPlan, Rejection> {
         let plan = PlanBytes::new(bytes).ok_or(Rejection::PlanLength)?;
         let raster = plan.raster();
-        if !(1..=1_000_000).contains(&raster) {
+        if !(1..=COARSEST).contains(&raster) {
             return Err(Rejection::PlanRaster);
         }
         ChannelPlan::ordered(raster, plan.blocks())

@@ -16,6 +16,7 @@ pub struct RasterReceiver {
     /// of the audio
     gain: u8,
     squelch: u8,
+    /// said here too: a model hides its invariant, and the law of a receiver sees the plan alone
     ghost sound: { IsWellFormed plan },
     ghost there: { InBlock plan channel },
     /// the laws are about numbers of any size

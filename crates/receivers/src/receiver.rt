@@ -5,6 +5,9 @@ ghost use Rattle.receivers.specs.Meaning.{Lawful, Meaning, changed, plainly};
 use super::Refusal;
 use commands::{Setting, is_lawful};
 
+/// The widest step of a grid or a raster, in Hz.
+pub(crate) const COARSEST: u32 = 1_000_000;
+
 /// The highest frequency of any receiver, in Hz.
 pub(crate) const HIGHEST: u64 = 9_999_999_999;
 

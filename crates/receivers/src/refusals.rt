@@ -2,8 +2,9 @@
 ghost use Rattle.std.specs.Prelude.{◌≡◌};
 ghost use Rattle.receivers.specs.Refusals.{cause_of, deeper, layer_of};
 
-/// A layer counts the receivers of a pile from its top, which is layer 1. It stands in each variant, so that
-/// one pattern names the refusal and its layer.
+/// A layer counts the receivers of a pile from its top, which is layer 1. It stands in each variant:
+/// callers match on a refusal, and one pattern names it and its layer. A receiver that refuses by itself says
+/// `layer: 1`, which a constant would only hide.
 #[derive(Clone, Copy, PartialEq, Eq, Debug)]
 pub enum Refusal {
     /// the receiver does not have the setting

@@ -2,7 +2,7 @@
 ghost use Rattle.std.specs.Prelude.{◌≡◌, ◌<◌, true, length};
 ghost use Rattle.receivers.specs.Tables.{Held, bit, first_numbers, suits};
 
-use super::receiver::{HIGHEST, take_plainly};
+use super::receiver::{COARSEST, HIGHEST, take_plainly};
 use super::{Receiver, Refusal, Rejection};
 use commands::Setting;
 
@@ -19,8 +19,8 @@ pub struct Coverage {
 #[derive(Drop)]
 pub struct TableReceiver {
     coverage: Coverage,
-    /// one for each setting, by its number, so an array that is always full; what stands for a setting that
-    /// is not fitted means nothing
+    /// one for each setting, by its number, and always full. What stands for a setting that is not fitted means
+    /// nothing; it is no option, since the mask says already which settings there are
     numbers: [u64; 15],
     ghost suited: { suits coverage ≡ true },
     ghost held: { Held coverage numbers },
@@ -49,7 +49,7 @@ impl Coverage {
     {
         self.low <= self.high
             && self.high <= HIGHEST
-            && (1..=1_000_000).contains(&self.grid)
+            && (1..=u64::from(COARSEST)).contains(&self.grid)
             && self.low % self.grid == 0
             && !has_bit(self.mask, 15)
     }

@@ -2,8 +2,7 @@
 ghost use Rattle.std.specs.Prelude.{◌≡◌, ◌+◌, ◌*◌, ◌<◌, ◌≤◌, IfSome, length, option_map};
 ghost use Rattle.receivers.specs.Plans.{block_count, block_of, blocks_of, word};
 
-use crate::blocks::Block;
-use arrayvec::ArrayVec;
+use crate::blocks::{Block, Blocks, MOST_BLOCKS};
 
 /// Bytes that have the length for their number of blocks.
 #[derive(Drop)]
@@ -21,7 +20,8 @@ impl<'a> PlanBytes<'a> {
         ensures bytes { IfSome result (λ plan. plan.bytes.now ≡ bytes.now) }
     {
         let count = usize::from(*bytes.first()?);
-        if (1..=16).contains(&count) && bytes.len() == 5 + 8 * count {
+        // an `if`: the closure of a `then` would not know that the test was passed
+        if (1..=MOST_BLOCKS).contains(&count) && bytes.len() == 5 + 8 * count {
             Some(PlanBytes { bytes, count })
         } else {
             None
@@ -33,8 +33,7 @@ impl<'a> PlanBytes<'a> {
         requires { i + 4 ≤ length self.now.bytes.now }
         ensures { result ≡ word self.now.bytes.now i }
     {
-        let bytes = self.bytes;
-        u32::from_be_bytes([bytes[i], bytes[i + 1], bytes[i + 2], bytes[i + 3]])
+        u32::from_be_bytes(self.bytes[i..i + 4].try_into().unwrap())
     }
 
     pub(super) fn raster(&self) -> u32
@@ -43,7 +42,7 @@ impl<'a> PlanBytes<'a> {
         self.word(1)
     }
 
-    /// All first frequencies stand before all last ones: so the bytes come.
+    /// In the bytes of a plan all first frequencies stand before all last ones.
     fn block(&self, k: usize) -> Block
         requires { k < self.now.count }
         ensures { result ≡ block_of self.now.bytes.now self.now.count k }
@@ -54,11 +53,11 @@ impl<'a> PlanBytes<'a> {
         }
     }
 
-    pub(super) fn blocks(&self) -> ArrayVec<Block, 16>
+    pub(super) fn blocks(&self) -> Blocks
         ensures { result.items ≡ blocks_of self.now.bytes.now self.now.count }
     {
-        let mut blocks = ArrayVec::new();
-        // `extend` would answer a want of room, which cannot be
+        let mut blocks = Blocks::new();
+        // one by one: of `extend` the check does not find that it has room for all
         for k in 0..self.count {
             blocks.push(self.block(k));
         }

@@ -1,12 +1,10 @@
-use Rattle.std.proofs.Common.{◌<◌, Bool, true, false, ◌++◌, length, sym, ap, ◌∙◌, subst, arith}
-use Rattle.std.proofs.lemmas.List.{at_drop_all}
+use Rattle.std.proofs.Common.{Bool, true, false, ◌++◌, length, sym, ap, ◌∙◌, arith}
 use Rattle.std.proofs.lemmas.Result.{MatchResult-from_err}
-use Rattle.framing.specs.Frames.{sound_frames}
 use Rattle.framing.specs.Machine.{gives}
 use Rattle.framing.proofs.Running.{gives_turn, gives_stream}
 use Rattle.hexadecimal.specs.Lines.{line}
 use Rattle.monitor.specs.Reports.{frame_lines}
-use Rattle.monitor.proofs.Listing.{line_added, line_refused, listing_ended}
+use Rattle.monitor.proofs.Listing.{line_added, line_refused}
 use Rattle.monitor.proofs.report.list_frames.Goals as goal
 use Rattle.monitor.proofs.report.list_frames.Goals.{then-take+in_ok-add, else-take}
 
@@ -40,17 +38,3 @@ loop-byte-preserved c =
             omega (arith, w.frames-is, ap length next),
           )
     ]
-
-pub returns-in_err-add_count : goal.returns-in_err-add_count
-returns-in_err-add_count c =
-    let stream = c.args.stream.now in
-    let none = at_drop_all (gives c.loop-byte.framer) stream c.loop-byte.byte-index c.loop-byte-test.false in
-    MatchResult-from_err c.from_residual-in_err-add_count.result _ _ c.from_residual-in_err-add_count.ensures.0
-    (λ _. subst (λ l. 32768 < length l) (listing_ended c.loop-byte.page (sound_frames stream) _ c.loop-byte.frames none c.loop-byte.invariant.1 c.loop-byte.invariant.2) c.in_err-add_count.ensures)
-
-pub returns : goal.returns
-returns c =
-    let stream = c.args.stream.now in
-    let none = at_drop_all (gives c.loop-byte.framer) stream c.loop-byte.byte-index c.loop-byte-test.false in
-    c.in_ok-add_count.ensures
-    ∙ listing_ended c.loop-byte.page (sound_frames stream) _ c.loop-byte.frames none c.loop-byte.invariant.1 c.loop-byte.invariant.2
