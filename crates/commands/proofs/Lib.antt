@@ -1,5 +1,4 @@
 pub mod Searching
-pub mod Bytes
 pub mod Parsing
 pub mod Tabled
 pub mod Asking

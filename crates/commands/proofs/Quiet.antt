@@ -6,7 +6,6 @@ use Rattle.std.proofs.lemmas.List.Elements.{All-nil, All-cons, All-head, All-tai
 use Rattle.digits.specs.Bytes.{is_digit_byte}
 use Rattle.digits.specs.Fields.{AllDigits}
 use Rattle.framing.specs.Frames.{NoEnd, clean}
-use Rattle.commands.proofs.Bytes.{no_end_nil, no_end_cons, all_digits_head, all_digits_tail}
 use Rattle.commands.proofs.Tabled.{Small}
 
 -- digit bytes are small
@@ -18,7 +17,7 @@ digit_small b h =
 
 digits_small : (bs : List ℕ) → AllDigits bs → All Small bs
 digits_small [] h = All-nil Small
-digits_small (b ∷ bs) h = All-cons Small b bs (digit_small b (all_digits_head b bs h)) (digits_small bs (all_digits_tail b bs h))
+digits_small (b ∷ bs) h = All-cons Small b bs (digit_small b h.0) (digits_small bs h.1)
 
 -- small bytes, and addresses, are quiet
 abbrev pub Quiet : ℕ → Type 0
@@ -32,9 +31,9 @@ named_field_quiet name field h d =
 -- among quiet bytes there is no FD, FC or FE
 
 pub quiet_no_end : (bs : List ℕ) → All Quiet bs → NoEnd bs
-quiet_no_end [] h = no_end_nil
+quiet_no_end [] h = tt
 quiet_no_end (b ∷ bs) h =
-    no_end_cons b bs (λ e. omega (arith, All-head Quiet b bs h)) (quiet_no_end bs (All-tail Quiet b bs h))
+    (λ e. omega (arith, All-head Quiet b bs h), quiet_no_end bs (All-tail Quiet b bs h))
 
 pub quiet_clean : (bs : List ℕ) → All Quiet bs → clean bs ≡ true
 quiet_clean [] h = refl

@@ -11,7 +11,6 @@ use Rattle.commands.specs.Rows.{read_bytes}
 use Rattle.commands.specs.Answers.{answer_bytes, front, framed, Says, Told, RepliesTell}
 use Rattle.commands.proofs.Composing.{number_told}
 use Rattle.commands.proofs.Tabled.{Small}
-use Rattle.commands.proofs.Bytes.{no_end_nil, no_end_cons}
 use Rattle.commands.proofs.Quiet.{named_field_quiet, quiet_no_end}
 
 -- the bytes of an answer: none is FD, and the first says which answer it is
@@ -20,7 +19,7 @@ pub record Fair (answer : Answer) (bytes : List ℕ) : Type 0 where
   pub says : (rest : List ℕ) → Says answer (get_or (bytes ++ rest) 0 0)
 
 one_fair : (answer : Answer) (b : ℕ) (ws : List ℕ) → (b ≡ 0xFD → ⊥) → Says answer b → b ∷ [] ≡ ws → Fair answer ws
-one_fair answer b ws n s same = subst (Fair answer) same (record { no_end = no_end_cons b [] n no_end_nil; says = λ rest. s })
+one_fair answer b ws n s same = subst (Fair answer) same (record { no_end = (n, tt); says = λ rest. s })
 
 fair : (answer : Answer) (ws : List ℕ) → answer_bytes answer ≡ Ok ws → Fair answer ws
 fair Done ws e = one_fair Done 0xFB ws (λ h. omega arith) refl (let same : 0xFB ∷ [] ≡ ws = cc in same)
@@ -52,7 +51,6 @@ replies_tell to from answer bytes e = go (answer_bytes answer) refl e
           comes_from = ap (λ xs. get_or xs 3 0) (sym same);
           says = subst (λ xs. Says answer (get_or xs 4 0)) same (ok.says (0xFD ∷ []));
           once = λ h k.
-              no_end_cons 0xFE (0xFE ∷ to ∷ from ∷ ws) (λ x. omega arith)
-              (no_end_cons 0xFE (to ∷ from ∷ ws) (λ x. omega arith) (no_end_cons to (from ∷ ws) h (no_end_cons from ws k ok.no_end)));
+              (λ x. omega arith, (λ x. omega arith, (h, (k, ok.no_end))));
         }
     go (Err x) f e = absurd (grind arith)

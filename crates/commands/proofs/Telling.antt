@@ -15,7 +15,6 @@ use Rattle.commands.specs.Requests.{Asked, read, write, vfo, request_of}
 use Rattle.commands.specs.Instructions.{order_of, completed, if_lawful, if_digits, written, writing, instructed, instruction_of}
 use Rattle.commands.specs.Asking.{Asks, Caused}
 use Rattle.commands.specs.Telling.{AsksToWrite, number_named, FirstStray, Tells, Faulted, DecodedByTheBytes}
-use Rattle.commands.proofs.Bytes.{all_digits_nil, all_digits_cons, all_digits_head, all_digits_tail}
 use Rattle.commands.proofs.Asking.{requests_by_their_bytes}
 use Rattle.commands.proofs.Causes.{faults_by_their_causes}
 
@@ -24,7 +23,7 @@ use Rattle.commands.proofs.Causes.{faults_by_their_causes}
 stray_found : (front : List ℕ) (b : ℕ) (back : List ℕ) → AllDigits front → is_digit_byte b ≡ false → first_stray (front ++ (b ∷ back)) ≡ Some (length front)
 stray_found [] b back d n = cond-false _ _ _ n
 stray_found (c ∷ front) b back d n =
-    cond-true _ _ _ (all_digits_head c front d) ∙ ap (option_map (λ p. p + 1)) (stray_found front b back (all_digits_tail c front d) n) ∙ ap Some (add-one (length front))
+    cond-true _ _ _ d.0 ∙ ap (option_map (λ p. p + 1)) (stray_found front b back d.1 n) ∙ ap Some (add-one (length front))
 
 one_further : (b : ℕ) (bs : List ℕ) (k : ℕ) → is_digit_byte b ≡ true → FirstStray bs k → FirstStray (b ∷ bs) (k + 1)
 one_further b bs k d f =
@@ -33,7 +32,7 @@ one_further b bs k d f =
       stray = f.stray;
       back = f.back;
       stands = ap (λ xs. b ∷ xs) f.stands;
-      digits = all_digits_cons b f.front d f.digits;
+      digits = (d, f.digits);
       none = f.none;
       place = omega (arith, f.place);
     }
@@ -47,7 +46,7 @@ stray_is_first (b ∷ bs) k e = go (is_digit_byte b) refl (first_stray bs) (stra
     go true h (Some j) f e = let same : j + 1 ≡ k = cc in subst (FirstStray (b ∷ bs)) same (one_further b bs j h (f j refl))
     go false h o f e =
         let same : 0 ≡ k = cc in
-        record { front = []; stray = b; back = bs; stands = refl; digits = all_digits_nil; none = h; place = same }
+        record { front = []; stray = b; back = bs; stands = refl; digits = tt; none = h; place = same }
 
 -- what the data of a writing come to
 

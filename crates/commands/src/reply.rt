@@ -25,7 +25,7 @@ impl Model for Reply {
 impl Reply {
     /// FE FE, the address that the reply goes to, the one that it comes from, what it tells, and FD.
     /// The two addresses stay two arguments, in the order of the frame.
-    pub(crate) fn new(to: u8, from: u8, told: &[u8]) -> Reply
+    pub(crate) fn new(to: u8, from: u8, told: &[u8]) -> Self
         requires { 5 + length told.now ≤ LONGEST_REPLY }
         ensures { result ≡ front to from ++ told.now ++ 0xFD ∷ [] }
     {

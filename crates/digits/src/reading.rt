@@ -3,7 +3,7 @@ ghost use Rattle.std.specs.Prelude.{◌≡◌, ◌≤◌, length};
 ghost use Rattle.digits.specs.Fields.{field_reading, number_or_stray};
 ghost use Rattle.digits.specs.declared.Order.TheVariants.{LowFirst, HighFirst};
 
-use super::table::pair_number;
+use super::table::digit_byte_number;
 use super::{MOST_BYTES, Order, Unreadable};
 
 /// The number of a field, or why it has none.
@@ -13,7 +13,7 @@ pub fn read_field(order: Order, field: &[u8]) -> Result<u64, Unreadable>
     if field.len() > MOST_BYTES {
         return Err(Unreadable::TooLong);
     }
-    // a `match`: an order is data of the table of commands, and two readers are all that it chooses from
+    // a `match` and no closure: there are two orders, and each has its reader
     let reading = match order {
         Order::LowFirst => low_first(field),
         Order::HighFirst => high_first(field),
@@ -31,7 +31,7 @@ fn low_first(field: &[u8]) -> Result<u64, usize>
     match field {
         [] => Ok(0),
         [first, rest @ ..] => {
-            let number = pair_number(*first).ok_or(0usize)?;
+            let number = digit_byte_number(*first).ok_or(0usize)?;
             let higher = low_first(rest).map_err(|place| place + 1)?;
             Ok(u64::from(number) + 100 * higher)
         }
@@ -49,7 +49,7 @@ fn high_first(field: &[u8]) -> Result<u64, usize>
         [] => Ok(0),
         [front @ .., last] => {
             let higher = high_first(front)?;
-            let number = pair_number(*last).ok_or(front.len())?;
+            let number = digit_byte_number(*last).ok_or(front.len())?;
             Ok(u64::from(number) + 100 * higher)
         }
     }

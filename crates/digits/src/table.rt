@@ -38,7 +38,7 @@ fn entry(place: usize) -> u8
 }
 
 /// The number of a digit byte; another byte has none.
-pub(crate) fn pair_number(byte: u8) -> Option<u8>
+pub(crate) fn digit_byte_number(byte: u8) -> Option<u8>
     ensures { result ≡ (if is_digit_byte byte then Some (number_of_byte byte) else None) }
 {
     match byte_number(byte) {

@@ -10,6 +10,6 @@ has_room room before text = nat_le (length before + length text) room
 abbrev pub with_text : ℕ → List ℕ → List ℕ → List ℕ
 with_text room before text = if has_room room before text then before ++ text else before
 
--- the answer x where it was added, and else the refusal
-abbrev pub adding : {X : Type 0} → X → ℕ → List ℕ → List ℕ → Result X NoRoom
-adding x room before text = if has_room room before text then Ok x else Err (record {})
+-- whether it was added
+abbrev pub adding : ℕ → List ℕ → List ℕ → Result (Unit {0}) NoRoom
+adding room before text = if has_room room before text then Ok tt else Err (record {})

@@ -48,7 +48,7 @@ impl Page {
 
     /// Puts something behind what stands on the page, or leaves the page as it is.
     pub fn add<P: Printed + Drop>(&mut self, what: P) -> Result<(), NoRoom>
-        ensures value { result ≡ adding tt PAGE_ROOM self.old (P.text what) }
+        ensures value { result ≡ adding PAGE_ROOM self.old (P.text what) }
         ensures after { self.new ≡ with_text PAGE_ROOM self.old (P.text what) }
         ensures cases { MatchResult result (λ _. self.new ≡ self.old ++ P.text what) (λ _. PAGE_ROOM < length self.old + length (P.text what)) }
     {

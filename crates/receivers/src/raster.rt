@@ -17,7 +17,7 @@ pub struct RasterReceiver {
     gain: u8,
     squelch: u8,
     /// said here too: a model hides its invariant, and the law of a receiver sees the plan alone
-    ghost sound: { IsWellFormed plan },
+    ghost well_formed: { IsWellFormed plan },
     ghost there: { InBlock plan channel },
     /// the laws are about numbers of any size
     ghost loudest: { gain ≤ 255 },
@@ -98,7 +98,7 @@ impl Receiver for RasterReceiver {
 
     ghost means = { raster_means };
 
-    ghost sound = { λ x. raster_laws x.plan x.sound.ordered x.sound.step x.sound.reachable x.channel x.there x.gain x.squelch x.loudest x.tightest };
+    ghost sound = { λ x. raster_laws x.plan x.well_formed.ordered x.well_formed.step x.well_formed.reachable x.channel x.there x.gain x.squelch x.loudest x.tightest };
 
     fn try_number(&self, setting: Setting, number: u64) -> Result<u64, Refusal> {
         match setting {
