@@ -34,7 +34,7 @@ number_told s n ws e = go (row_of s) refl e
     go (Some r) f e = row_told r n ws (ltb n (100 ^ r.bytes)) (found_tabled _ r f) refl e
 
 -- an answer has at most seven bytes
-answer_short : (answer : Answer) (ws : List ℕ) → answer_bytes answer ≡ Ok ws → length ws ≤ 7
+pub answer_short : (answer : Answer) (ws : List ℕ) → answer_bytes answer ≡ Ok ws → length ws ≤ 7
 answer_short Done ws e = let same : 0xFB ∷ [] ≡ ws = cc in omega (arith, ap length same)
 answer_short Failed ws e = let same : 0xFA ∷ [] ≡ ws = cc in omega (arith, ap length same)
 answer_short (Number s n) ws e =

@@ -1,10 +1,10 @@
 //! What a receiver answers, and the reply that says it.
-ghost use Rattle.std.specs.Prelude.{◌≡◌, ◌≤◌};
+ghost use Rattle.std.specs.Prelude.{◌≡◌, ◌≤◌, IfOk, length};
 ghost use Rattle.commands.specs.Answers.{RepliesTell, ShortReplies, answer_bytes, number_bytes, reply_of, row_bytes, told_bytes};
 ghost use Rattle.commands.specs.Rows.{read_bytes, row_of};
 ghost use Rattle.commands.specs.Saving.{SavedGoesBack};
 
-use super::{Reply, Row, Setting, row_of};
+use super::{LONGEST_REPLY, Reply, Row, Setting, row_of};
 use arrayvec::ArrayVec;
 use digits::{MOST_BYTES, write_field};
 use framing::{NG, OK};
@@ -39,6 +39,7 @@ type Told = ArrayVec<u8, MOST_TOLD>;
 /// with the same number again.
 pub fn compose(to: u8, from: u8, answer: Answer) -> Result<Reply, Unanswerable>
     ensures value { result ≡ reply_of to from answer }
+    ensures fits { IfOk result (λ reply. length reply ≤ LONGEST_REPLY) }
     ensures short { ShortReplies }
     ensures tells { RepliesTell }
     ensures goes_back { SavedGoesBack }

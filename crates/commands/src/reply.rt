@@ -15,11 +15,13 @@ pub struct Reply {
 }
 
 impl Model for Reply {
-    ghost use Rattle.std.specs.Prelude.{ℕ, List};
+    ghost use Rattle.std.specs.Prelude.{ℕ, ◌≤◌, List, length};
 
     ghost Value = { List ℕ };
 
     ghost view = { λ r. r.bytes.items };
+
+    ghost invariant = { λ r. length r.bytes.items ≤ 16 };
 }
 
 impl Reply {
@@ -42,6 +44,7 @@ impl Reply {
     pub fn as_slice(&self) -> &[u8]
         ensures value { result.now ≡ self.now }
         ensures fits { length result.now ≤ LONGEST_REPLY }
+        ensures room { LONGEST_REPLY ≡ 16 }
     {
         self.bytes.as_slice()
     }

@@ -5,6 +5,9 @@ ghost use Rattle.digits.specs.Fields.{field_reading, field_of, low_field, field_
 
 use super::{MOST_BYTES, Order, Unwritable};
 
+/// 100 to the power of each width. A table, since `pow` multiplies its way to each of them again at every call.
+const LIMITS: [u64; 6] = [1, 100, 10_000, 1_000_000, 100_000_000, 10_000_000_000];
+
 /// Writes the field of a number over all of the memory given, or says why there is none and leaves
 /// the memory as it was. What was written reads as the number, and no other field of that width does.
 pub fn write_field(order: Order, number: u64, field: &mut [u8]) -> Result<(), Unwritable>
@@ -29,8 +32,7 @@ fn limit(width: usize) -> u64
     requires { width ≤ MOST_BYTES }
     ensures { result ≡ 100 ^ width }
 {
-    // five at most: a cast, since `try_from` would answer a failure that cannot be
-    100_u64.pow(width as u32)
+    LIMITS[width]
 }
 
 /// High first is low first with its bytes reversed.

@@ -29,11 +29,14 @@ pub struct Framer {
 }
 
 impl Model for Framer {
+    ghost use Rattle.std.specs.Prelude.{◌≤◌, length};
     ghost use Rattle.framing.specs.Machine.{Machine, at};
 
     ghost Value = { Machine };
 
     ghost view = { λ f. at f.state f.body.items };
+
+    ghost invariant = { λ f. length f.body.items ≤ 40 };
 }
 
 impl Framer {
@@ -67,6 +70,7 @@ impl Framer {
     pub fn take(&mut self, byte: u8) -> bool
         ensures after { self.new ≡ stepped self.old byte }
         ensures ends { result ≡ ends_frame self.old byte }
+        ensures short { length self.new.held ≤ LONGEST_BODY }
     {
         match (self.state, byte) {
             (State::Body, END) => {
@@ -76,7 +80,8 @@ impl Framer {
             (_, END) => self.state = State::Preamble { marked: false },
             (State::Preamble { marked: true } | State::Void { marked: true }, MARK) => {
                 self.state = State::Body;
-                self.body.clear();
+                // no `clear`: it would want `memset` of every program in C that counts frames
+                self.body = ArrayVec::new();
             }
             (State::Preamble { marked: false }, MARK) => self.state = State::Preamble {
                 marked: true,

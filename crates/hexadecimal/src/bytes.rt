@@ -13,11 +13,13 @@ pub struct Bytes {
 }
 
 impl Model for Bytes {
-    ghost use Rattle.std.specs.Prelude.{ℕ, List};
+    ghost use Rattle.std.specs.Prelude.{ℕ, ◌≤◌, List, length};
 
     ghost Value = { List ℕ };
 
     ghost view = { λ b. b.bytes.items };
+
+    ghost invariant = { λ b. length b.bytes.items ≤ 2048 };
 }
 
 impl Bytes {
@@ -25,6 +27,7 @@ impl Bytes {
     pub fn as_slice(&self) -> &[u8]
         ensures value { result.now ≡ self.now }
         ensures fits { length result.now ≤ CAPACITY }
+        ensures room { CAPACITY ≡ 2048 }
     {
         self.bytes.as_slice()
     }

@@ -42,6 +42,7 @@ impl Page {
     pub fn as_slice(&self) -> &[u8]
         ensures value { result.now ≡ self.now }
         ensures fits { length result.now ≤ PAGE_ROOM }
+        ensures room { PAGE_ROOM ≡ 32768 }
     {
         &self.memory[..self.len]
     }
@@ -51,6 +52,8 @@ impl Page {
         ensures value { result ≡ adding PAGE_ROOM self.old (P.text what) }
         ensures after { self.new ≡ with_text PAGE_ROOM self.old (P.text what) }
         ensures cases { MatchResult result (λ _. self.new ≡ self.old ++ P.text what) (λ _. PAGE_ROOM < length self.old + length (P.text what)) }
+        ensures fits { length self.new ≤ PAGE_ROOM }
+        ensures room { PAGE_ROOM ≡ 32768 }
     {
         self.len += what.write(&mut self.memory[self.len..])?;
         Ok(())

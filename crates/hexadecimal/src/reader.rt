@@ -1,10 +1,10 @@
 //! Reading a text of pairs.
-ghost use Rattle.std.specs.Prelude.{◌≡◌, ℕ, List, ◌∷◌, ◌++◌, length, IfSome};
+ghost use Rattle.std.specs.Prelude.{◌≡◌, ℕ, ◌≤◌, List, ◌∷◌, ◌++◌, length, IfSome, IfOk};
 ghost use Rattle.hexadecimal.specs.Grammar.{ReadsByRules};
 ghost use Rattle.hexadecimal.specs.Texts.{advanced, text_reading, overlong};
 ghost use Rattle.hexadecimal.specs.Steps.{DigitSymbol, DigitStanding, StepSound};
 
-use super::bytes::Bytes;
+use super::bytes::{Bytes, CAPACITY};
 use super::symbols::{Symbol, symbol_of};
 use arrayvec::ArrayVec;
 
@@ -56,6 +56,7 @@ fn advance(standing: Standing, symbol: Symbol) -> Option<Step>
 #[tactic(auto, using(crate::proofs::Readings::past))]
 pub fn read(text: &[u8]) -> Result<Bytes, BadText>
     ensures value { result ≡ text_reading text.now }
+    ensures fits { IfOk result (λ bytes. length bytes ≤ CAPACITY) }
     ensures by_rules { ReadsByRules }
 {
     let mut bytes = ArrayVec::new();

@@ -1,14 +1,13 @@
 //! Shows the sound frames of a capture that is given as hexadecimal text on standard input.
 #![tactic(auto)]
 
-ghost use Rattle.std.specs.Prelude.{◌≡◌, length, nat_lt, take};
+ghost use Rattle.std.specs.Prelude.{◌≡◌, ◌≤◌, length, nat_lt, take, IfOk};
 ghost use Rattle.monitor.specs.Reports.{characters, goes_on};
 
 mod report;
 #[cfg(test)]
 mod tests;
 
-use arrayvec::ArrayVec;
 use hexadecimal::LIMIT;
 use report::{Given, report};
 use std::io;
@@ -18,10 +17,26 @@ use std::io::{Read, Write};
 const ENOUGH: usize = LIMIT + 1;
 
 fn main(rt: HostRuntime) -> io::Result<()> {
-    let mut text = ArrayVec::<u8, ENOUGH>::new();
-    // a cast of a constant, which loses nothing
-    io::copy(&mut rt.stdin().take(ENOUGH as u64), &mut text)?;
-    rt.stdout().write_all(report(given(&text)).as_slice())
+    let mut text = [0u8; ENOUGH];
+    let len = fill(&mut rt.stdin(), &mut text)?;
+    rt.stdout()
+        .write_all(report(given(&text[..len])).as_slice())
+}
+
+/// Reads until the memory is full or the input ends, and says how many bytes came. Not `io::copy`, which goes on
+/// after a read that was interrupted: here each read that fails ends the program.
+fn fill<R: Read>(input: &mut R, memory: &mut [u8]) -> io::Result<usize>
+    ensures { IfOk result (λ n. n ≤ length memory.old) }
+{
+    let mut len = 0;
+    while len < memory.len() {
+        let got = input.read(&mut memory[len..])?;
+        if got == 0 {
+            break;
+        }
+        len += got;
+    }
+    Ok(len)
 }
 
 /// What was read, whole or cut after as many characters as a text may have.

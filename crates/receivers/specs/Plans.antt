@@ -16,6 +16,7 @@ pub record Plan : Type 0 where
 -- what holds of every plan that is kept
 pub record IsWellFormed (p : Plan) : Type 0 where
   pub some : 0 < length p.blocks
+  pub few : length p.blocks ≤ 16
   pub step : 0 < p.raster
   pub fine : p.raster ≤ 1000000
   pub ordered : InOrder p.blocks

@@ -22,6 +22,8 @@ pub struct TableReceiver {
     /// one for each setting, by its number, and always full. What stands for a setting that is not fitted means
     /// nothing; it is no option, since the mask says already which settings there are
     numbers: [u64; 15],
+    /// said here too: behind a reference an array's length is not known from its type
+    ghost fifteen: { length numbers ≡ 15 },
     ghost suited: { suits coverage ≡ true },
     ghost held: { Held coverage numbers },
 }

@@ -9,4 +9,5 @@ invariant-loop-position l = record {
   so_far : after l.bytes.items (reading_from l.standing l.position (drop l.position l.text)) ≡ text_reading l.text;
   digit : DigitStanding l.standing;
   room : 2 * length l.bytes.items + taken l.standing ≤ l.position;
+  within : l.position ≤ 4096;
 }

@@ -8,6 +8,7 @@ invariant_of-result c =
     let blocks = c.deref.result.now in
     record {
       some = search rules;
+      few = search rules;
       step = search rules;
       fine = search rules;
       ordered = rw c.deref.ensures.0 at (none_passes (misplaced blocks) (length blocks) (sym c.in-None.ensures));
