@@ -1,7 +1,7 @@
 //! Shows the sound frames of a capture that is given as hexadecimal text on standard input.
 #![tactic(auto)]
 
-ghost use Rattle.std.specs.Prelude.{◌≡◌, ◌≤◌, length, nat_lt, take, IfOk};
+ghost use Rattle.std.specs.Prelude.{◌≡◌, ◌<◌, ◌≤◌, length, nat_lt, take, IfOk};
 ghost use Rattle.monitor.specs.Reports.{characters, goes_on};
 
 mod report;
@@ -18,9 +18,22 @@ const ENOUGH: usize = LIMIT + 1;
 
 fn main(rt: HostRuntime) -> io::Result<()> {
     let mut text = [0u8; ENOUGH];
-    let len = fill(&mut rt.stdin(), &mut text)?;
+    let len = fill_text(&mut rt.stdin(), &mut text)?;
     rt.stdout()
         .write_all(report(given(&text[..len])).as_slice())
+}
+
+/// Fills the room for a text, and only behind a full one asks for the character that shows that it goes on.
+fn fill_text<R: Read>(input: &mut R, text: &mut [u8]) -> io::Result<usize>
+    requires { LIMIT < length text.old }
+    ensures { IfOk result (λ n. n ≤ length text.old) }
+{
+    let (start, more) = text.split_at_mut(LIMIT);
+    let len = fill(input, start)?;
+    if len < LIMIT {
+        return Ok(len);
+    }
+    Ok(LIMIT + fill(input, more)?)
 }
 
 /// Reads until the memory is full or the input ends, and says how many bytes came. Not `io::copy`, which goes on
