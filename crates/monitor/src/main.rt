@@ -23,7 +23,8 @@ fn main(rt: HostRuntime) -> io::Result<()> {
         .write_all(report(given(&text[..len])).as_slice())
 }
 
-/// Fills the room for a text, and only behind a full one asks for the character that shows that it goes on.
+/// Fills the room for a text, and only behind a full one asks for the character that shows that it goes on. That
+/// is a read of its own: of an input that keeps messages apart, a larger read would be given another text.
 fn fill_text<R: Read>(input: &mut R, text: &mut [u8]) -> io::Result<usize>
     requires { LIMIT < length text.old }
     ensures { IfOk result (λ n. n ≤ length text.old) }
